@@ -25,7 +25,8 @@ struct written {
 
 /* The query becomes the base, the port is removed, and all else is kept. */
 static uint32_t call(int which, const char *base, size_t base_len, const char *text, size_t len, struct written *to) {
-  struct uriparse_changes changes = {0};
+  struct uriparse_changes changes;
+  memset(&changes, 0, sizeof changes);
   changes.port.action = URIPARSE_REMOVE;
   changes.query.end = base_len;
   changes.query.action = URIPARSE_SET;

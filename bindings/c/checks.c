@@ -1,5 +1,6 @@
 /* Rows with what is expected: the order of references, URIs and hosts within others, what hosts may be taken for, default ports, and pairs
  * that are found, set, appended and dropped. Prints as test.c does. */
+#include "hostile.h"
 #include "rows.h"
 
 /* The order of two references, both ways round, and that `equal` agrees. */
@@ -90,6 +91,43 @@ static void pair_rejects(uint32_t code, const size_t *needed, uint32_t expected,
   check(code == expected && *needed == 0, "pair rejects", row);
 }
 
+/* The answer to a row of tests/hostile.tsv, or NULL if no call answers it. */
+static const char *answer_to(const struct hostile_row *row) {
+  static const char *const sums[] = {"0", "1", "2", "3", "4", "5", "6", "7"};
+  size_t len = strlen(row->text);
+  uint32_t flags, code;
+  bool is_true = false;
+  if (strcmp(row->call, "host-flags") == 0) {
+    return uriparse_host_flags(row->text, len, &flags) == URIPARSE_OK ? sums[flags & 7] : "rejected";
+  }
+  if (strcmp(row->call, "within") == 0) {
+    code = uriparse_is_within(row->text, len, row->other, strlen(row->other), &is_true);
+  } else if (strcmp(row->call, "host-within") == 0) {
+    code = uriparse_host_is_within(row->text, len, row->other, strlen(row->other), &is_true);
+  } else {
+    return NULL;
+  }
+  return code != URIPARSE_OK ? "rejected" : is_true ? "yes" : "no";
+}
+
+static void hostile_rows(const char *path) {
+  struct hostile_row row;
+  int count = 0;
+  FILE *file = fopen(path, "r");
+  check(file != NULL, "rows", path);
+  while (file != NULL && read_hostile_row(file, &row)) {
+    const char *answer = answer_to(&row);
+    if (answer != NULL) {
+      check(strcmp(answer, row.answer) == 0, row.call, row.text);
+      count++;
+    }
+  }
+  check(count > 700, "count of rows", path);
+  if (file != NULL) {
+    fclose(file);
+  }
+}
+
 int main(void) {
   uint8_t out[8];
   size_t needed;
@@ -119,6 +157,9 @@ int main(void) {
   is_within("http://h/app/..;/admin", "http://h/app/", URIPARSE_OK, false);
   is_within("http://h/app/..%2fadmin", "http://h/app/", URIPARSE_OK, false);
   is_within("http://h/app/a%00", "http://h/app/", URIPARSE_OK, false);
+  is_within("http://h/app/..;/../a", "http://h/app/", URIPARSE_OK, false);
+  is_within("http://h/app//../a", "http://h/app/", URIPARSE_OK, false);
+  is_within("http://h/app/a;x/../b", "http://h/app/", URIPARSE_OK, true);
   is_within("https://h/a/b", "http://h/a/", URIPARSE_OK, false);
   is_within("http://u@h/a/b", "http://h/a/", URIPARSE_OK, false);
   is_within("http://h:8080/a/b", "http://h/a/", URIPARSE_OK, false);
@@ -135,6 +176,8 @@ int main(void) {
   host_is_within("//evilexample.com", "example.com", URIPARSE_OK, false);
   host_is_within("//example.com.evil.org", "example.com", URIPARSE_OK, false);
   host_is_within("//a..example.com", "example.com", URIPARSE_OK, false);
+  host_is_within("//evil.org%2F.example.com", "example.com", URIPARSE_OK, false);
+  host_is_within("//a%2F.h", "A%2f.H", URIPARSE_OK, true);
   host_is_within("//1.2.3.4", "4", URIPARSE_OK, false);
   host_is_within("//1.2.3.4", "1.2.3.4", URIPARSE_OK, true);
   host_is_within("//%31.2.3.4", "1.2.3.4", URIPARSE_OK, false);
@@ -153,6 +196,9 @@ int main(void) {
   host_flags("//1.2.3.4", URIPARSE_OK, 0);
   host_flags("//[::1]", URIPARSE_OK, 0);
   host_flags("a", URIPARSE_OK, 0);
+  host_flags("//evil.org%2F.example.com", URIPARSE_OK, URIPARSE_HAS_ESCAPES);
+  host_flags("//a%2f.1", URIPARSE_OK, URIPARSE_HAS_ESCAPES | URIPARSE_MAY_BE_NUMERIC);
+  hostile_rows("../../tests/hostile.tsv");
   host_flags("a b", URIPARSE_PATH_BYTE, 0);
 
   default_port("https", 443);

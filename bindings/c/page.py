@@ -1,19 +1,29 @@
-"""Runs the code of README.md and uriparse/README.md.
+"""Readies the code of README.md to run.
 
-    page.py c FILE      writes the blocks of C to FILE.c as one program, and what their comments `// prints ..` say to FILE.txt;
+    page.py FILE        writes the blocks of C to FILE.c as one program, and what their comments `// prints ..` say to FILE.txt;
                         the blocks in other languages must stand in test.cpp, test_hpp.cpp and test.go, which are run
-    page.py python      runs the blocks of Python of uriparse/README.md as doctests
+
+The redirect check of the page is also tried on the rows of tests/hostile.tsv.
 
 The last line that is printed counts the blocks. The status is 1 if one isn't as the page says."""
-import doctest
 import os
 import re
 import sys
 
 HERE = os.path.dirname(os.path.abspath(__file__))
+sys.path.insert(0, os.path.join(HERE, "../../tests"))
+import model  # noqa: E402
+
 TESTS = {"cpp": ("test.cpp", "test_hpp.cpp"), "go": ("test.go",)}
 FUNCTION = re.compile(r"^(?!for|if|while)\w[^;]*\) \{$", re.MULTILINE)
 HEAD = '#include "uriparse.h"\n#include <stdio.h>\n#include <stdlib.h>\n#include <string.h>\n\n'
+WRONG = """static char *wrong(const char *page, const char *location, const char *directory, bool is_right) {
+  char *target = allowed_target(page, location, directory);
+  if ((target != NULL) != is_right) printf("wrong: %s\\n", location);
+  return target;
+}
+
+"""
 
 
 def read(name):
@@ -23,6 +33,15 @@ def read(name):
 
 def blocks(page, language):
     return re.findall(r"^```%s\n(.*?)^```$" % language, read(page), re.MULTILINE | re.DOTALL)
+
+
+def redirects():
+    """Calls of the page's redirect check with the rows of tests/hostile.tsv, each of which prints a wrong answer."""
+    def literal(text):
+        return '"%s"' % "".join(chr(byte) if 32 <= byte < 127 and byte not in b'\\"?' else "\\%03o" % byte for byte in text.encode())
+    rows = [row for row in model.read_rows() if row.call.startswith("redirect")]
+    return "".join("  free(wrong(%s, %s, %s, %d));\n" % (literal(row.other), literal(row.text), "NULL" if row.call == "redirect" else literal(row.other),
+                                                      row.answer == "yes") for row in rows), len(rows)
 
 
 def write_c(name):
@@ -35,24 +54,15 @@ def write_c(name):
         else:
             text += "static void block_%d(void) {\n%s}\n\n" % (number, block)
             calls += "  block_%d();\n" % number
+    checks, count = redirects()
     with open(name + ".c", "w", encoding="utf-8") as file:
-        file.write("%sint main(void) {\n%s  return 0;\n}\n" % (text, calls))
+        file.write("%s%sint main(void) {\n%s%s  return 0;\n}\n" % (text, WRONG, calls, checks))
     with open(name + ".txt", "w", encoding="utf-8") as file:
         file.writelines(line + "\n" for block in found for line in re.findall("// prints (.*)$", block, re.MULTILINE))
     shown = [(tests, block) for language, tests in TESTS.items() for block in blocks("README.md", language)]
     missing = [block for tests, block in shown if not any(block in read(test) for test in tests)]
-    print("\n".join(missing) if missing else "%d blocks of C, and %d in other languages" % (len(found), len(shown)))
-    return bool(missing) or not found or not shown
+    print("\n".join(missing) if missing else "%d blocks of C, and %d in other languages, %d redirects" % (len(found), len(shown), count))
+    return bool(missing) or not found or not shown or count < 60
 
 
-def run_python():
-    """The fences become empty lines, so that line numbers are the page's."""
-    page = "uriparse/README.md"
-    text = re.sub("^```.*$", "", read(page), flags=re.MULTILINE)
-    runner = doctest.DocTestRunner()
-    runner.run(doctest.DocTestParser().get_doctest(text, {}, page, page, 0))
-    print("%d blocks" % len(blocks(page, "python")) if not runner.failures else "%d examples failed" % runner.failures)
-    return bool(runner.failures) or not runner.tries
-
-
-sys.exit(write_c(sys.argv[2]) if sys.argv[1] == "c" else run_python())
+sys.exit(write_c(sys.argv[1]))

@@ -84,7 +84,7 @@ int main(void) {
   size_t most = 0;
   for (which = 0; which < CALLS; which++) {
     static const char *const of_two[] = {"equal", "resolve", "relativize", "compare", "is_within", "host_is_within", "find_pair",
-                                         "drop_pairs"};
+                                         "set_pair", "append_pair", "drop_pairs", "change"};
     bool has_base = false;
     for (size_t i = 0; i < sizeof of_two / sizeof of_two[0]; i++) {
       has_base = has_base || strcmp(names[which], of_two[i]) == 0;

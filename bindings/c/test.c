@@ -1,9 +1,13 @@
 /* Rows with what is expected: the tables of RFC 3986, section 5.4, references that lead to a URI, normal forms, components,
  * texts that are rejected, components that are changed, and texts that are decoded, encoded, escaped and cut into pairs. Prints a line
  * for each check that fails and how many passed; the status is 0 if all did. */
+#define _POSIX_C_SOURCE 200809L
 #include "rows.h"
 
+#include <signal.h>
 #include <stdlib.h>
+#include <sys/wait.h>
+#include <unistd.h>
 
 /* Resolves into a buffer that has exactly the room that is needed, one byte less, and more. */
 static void resolves(const char *base, const char *text, const char *expected) {
@@ -255,6 +259,43 @@ static void texts(void) {
             && (URIPARSE_SCHEME_EMPTY & URIPARSE_COMPONENT_MASK) == URIPARSE_SCHEME
             && (URIPARSE_NO_ORIGIN & URIPARSE_COMPONENT_MASK) == 0, "component", "codes");
   check(strcmp(uriparse_version(), URIPARSE_VERSION) == 0, "version", URIPARSE_VERSION);
+}
+
+/* A NULL that is said to have bytes ends the program, and nothing is read or written: each is called in a child. */
+static void call_with_null(int which) {
+  struct uriparse_parts parts;
+  size_t needed;
+  bool equal;
+  switch (which) {
+  case 0: uriparse_parse(NULL, 1, &parts); break;
+  case 1: uriparse_normalize("http://h/aaaaaaaaaaaaaaaaaaaaaaaaaaaaaaaaaaaaaaaaaaaaaaaaaaa", 60, NULL, 64, &needed); break;
+  case 2: uriparse_escape("a", 1, NULL, (size_t)1 << 40, &needed); break;
+  default: uriparse_equal("a", 1, NULL, 1, &equal); break;
+  }
+}
+
+static void ends_by_null(void) {
+  for (int which = 0; which < 4; which++) {
+    int status = 0;
+    const pid_t child = fork();
+    if (child == 0) {
+      call_with_null(which);
+      _exit(0);
+    }
+    check(child > 0 && waitpid(child, &status, 0) == child && WIFSIGNALED(status) && WTERMSIG(status) == SIGABRT, "NULL with a length", "");
+  }
+}
+
+/* The component of a code, also of one that doesn't name it by its digit. */
+static void components(void) {
+  static const uint32_t rows[][2] = {
+      {URIPARSE_NO_SCHEME, URIPARSE_SCHEME}, {URIPARSE_NO_SCHEME | URIPARSE_IN_BASE, URIPARSE_SCHEME}, {URIPARSE_COLON_IN_SEGMENT, URIPARSE_SEGMENT},
+      {URIPARSE_TOO_MANY_SEGMENTS, URIPARSE_SEGMENT}, {URIPARSE_TWO_SLASHES, URIPARSE_SEGMENT}, {URIPARSE_MISSING_HOST, URIPARSE_HOST},
+      {URIPARSE_BAD_NAMES, URIPARSE_QUERY}, {URIPARSE_NO_PAIRS, URIPARSE_QUERY}, {URIPARSE_NO_ORIGIN, 0}, {URIPARSE_BAD_CHANGE, 0},
+      {URIPARSE_NO_COMPONENT, 0}, {URIPARSE_OK, 0}, {URIPARSE_HOST_IPV6_FORM | URIPARSE_IN_BASE, URIPARSE_HOST}, {URIPARSE_SCHEME_LETTER, URIPARSE_SCHEME}};
+  for (size_t i = 0; i < sizeof rows / sizeof rows[0]; i++) {
+    check(uriparse_error_component(rows[i][0]) == rows[i][1], "component", uriparse_error_text(rows[i][0]));
+  }
 }
 
 int main(void) {
@@ -544,6 +585,8 @@ int main(void) {
   equals("a", "?^", URIPARSE_QUERY_BYTE, false);
   check(uriparse_is_uri("a:", 2) && !uriparse_is_uri("a", 1) && !uriparse_is_uri("a:%", 3), "is_uri", "a:");
   texts();
+  components();
+  ends_by_null();
 
   hashes("http://h/%7ea", "HTTP://H/~a", true);
   hashes("//[V1.x]", "//[v1.X]", true);
@@ -552,6 +595,15 @@ int main(void) {
   {
     uint64_t hash = 1;
     check(uriparse_hash("%", 1, &hash) == URIPARSE_PATH_ESCAPE && hash == 1, "hash rejects", "%");
+  }
+
+  /* A change as a compound literal, whose commas stand in no parentheses. */
+  {
+    char out[40];
+    size_t needed;
+    check(uriparse_change("//u@h", 5, &(struct uriparse_changes){.host = {0, 1, URIPARSE_SET}, .port = {1, 3, URIPARSE_SET}}, "k80", 3, out,
+                          sizeof out, &needed) == URIPARSE_OK && needed == 8 && memcmp(out, "//u@k:80", 8) == 0, "compound literal", "//u@h");
+    check(uriparse_is_uri((const char[]){'s', ':'}, 2), "compound literal", "s:");
   }
 
   /* An empty text and an empty buffer may be NULL. */

@@ -1,8 +1,10 @@
 // The calls from C++. Prints how many checks passed; the status is 0 if all did.
+#include "hostile.h"
 #include "uriparse.h"
 
 #include <cstdio>
 #include <string>
+#include <type_traits>
 #include <vector>
 
 static int passed, failed;
@@ -53,14 +55,48 @@ struct reader {
   bool uriparse_is_uri(const std::string &text) const { return ::uriparse_is_uri(text.data(), text.size()); }
 };
 
+// The answer to a row of tests/hostile.tsv that a call answers.
+static std::string answer_to(const std::string &call, const std::string &text, const std::string &other) {
+  uint32_t flags = 0;
+  bool is_true = false;
+  if (call == "host-flags") return uriparse_host_flags(text.data(), text.size(), &flags) == URIPARSE_OK ? std::to_string(flags) : "rejected";
+  const uint32_t code = call == "within" ? uriparse_is_within(text.data(), text.size(), other.data(), other.size(), &is_true)
+                                         : uriparse_host_is_within(text.data(), text.size(), other.data(), other.size(), &is_true);
+  return code != URIPARSE_OK ? "rejected" : is_true ? "yes" : "no";
+}
+
+static void check_hostile() {
+  hostile_row row;
+  int count = 0;
+  FILE *const file = std::fopen("../../tests/hostile.tsv", "r");
+  while (file && read_hostile_row(file, &row)) {
+    if (std::string(row.call).compare(0, 8, "redirect") == 0) continue;
+    check(answer_to(row.call, row.text, row.other) == row.answer, row.text);
+    count++;
+  }
+  check(count > 700, "rows of hostile input");
+  if (file) std::fclose(file);
+}
+
 static void check_names() {
-  uint32_t (*hash)(const void *, size_t, uint64_t *) = &uriparse_hash;
+  uint32_t (*hash)(uriparse_bytes, size_t, uint64_t *) = &uriparse_hash;
   uint32_t (*of_c)(const uint8_t *, size_t, uint64_t *) = uriparse_c::uriparse_hash;
   const uint8_t byte = 'a';
   uint64_t one = 1, other = 2;
   check(hash(&byte, 1, &one) == URIPARSE_OK && of_c(&byte, 1, &other) == URIPARSE_OK && one == other, "addresses");
   check(::uriparse_is_uri("a:", 2) && reader().uriparse_is_uri("a:") && wrapped_is_uri("a:", 2), "qualified names");
 }
+
+// A text and a buffer are of bytes, or of `void`.
+template <class Text> static constexpr bool is_text() { return std::is_convertible<Text, uriparse_bytes>::value; }
+template <class Out> static constexpr bool is_buffer() { return std::is_convertible<Out, uriparse_buffer>::value; }
+
+static_assert(is_text<char *>() && is_text<const char *>() && is_text<char[3]>() && is_text<signed char *>() && is_text<const uint8_t *>(), "bytes");
+static_assert(is_text<void *>() && is_text<const void *>() && is_text<decltype(nullptr)>(), "void");
+static_assert(!is_text<std::string *>() && !is_text<const std::string *>() && !is_text<char **>() && !is_text<wchar_t *>(), "what has no bytes of a text");
+static_assert(!is_text<uriparse_parts *>() && !is_text<std::string>() && !is_text<bool>() && !is_text<std::vector<char>>(), "what has none either");
+static_assert(is_buffer<char *>() && is_buffer<uint8_t *>() && is_buffer<void *>() && is_buffer<decltype(nullptr)>(), "buffers");
+static_assert(!is_buffer<const char *>() && !is_buffer<std::string *>() && !is_buffer<char **>() && !is_buffer<const void *>(), "no buffers");
 
 // An empty text and an empty buffer may be null, of any type.
 static void check_null() {
@@ -81,6 +117,7 @@ static void check_null() {
   check(uriparse_escape(nullptr, 0, nullptr, 0, &needed) == URIPARSE_OK && needed == 0, "escape null");
   check(uriparse_origin(nullptr, 0, nullptr, 0, &needed) == URIPARSE_NO_ORIGIN && needed == 0, "origin null");
   check(uriparse_relativize("s:", 2, nullptr, 0, nullptr, 0, &needed) == URIPARSE_NO_SCHEME && needed == 0, "relativize null");
+  check(uriparse_parse(NULL, 0, &parts) == URIPARSE_OK && uriparse_escape(NULL, 0, NULL, 0, &needed) == URIPARSE_OK, "NULL");
   uriparse_pair pair;
   check(uriparse_next_pair(nullptr, 0, 0, &pair) && pair.next == 1 && !uriparse_next_pair(none.data(), 0, 1, &pair), "next_pair null");
 }
@@ -118,6 +155,7 @@ int main() {
   check(std::string(uriparse_error_text(URIPARSE_IN_BASE | URIPARSE_PORT_RANGE)) == "the port is above 65535", "text");
   check_names();
   check_null();
+  check_hostile();
   std::printf("%d passed, %d failed\n", passed, failed);
   return failed != 0;
 }

@@ -1,8 +1,12 @@
 // The calls of uriparse.hpp: results, absent components, errors, pairs, and strings that get more room. Prints how many checks
 // passed; the status is 0 if all did.
+#include "hostile.h"
 #include "uriparse.hpp"
 
+#include <algorithm>
 #include <cstdio>
+#include <set>
+#include <unordered_set>
 #include <vector>
 
 static int passed, failed;
@@ -29,12 +33,29 @@ static std::string search_of(std::string_view page, std::string_view link) {
   }
 }
 
+// The target of a redirect, to follow, if it is allowed: over https, to a name within one of the domains, below the directory if there is one.
+static std::optional<std::string> allowed_target(std::string_view page, std::string_view location, std::optional<std::string_view> directory) {
+  const auto domains = {"example.com", "example.org"};
+  try {
+    const std::string target = uriparse::resolve(page, location);
+    const uriparse::reference uri(target);
+    const bool is_within = std::any_of(domains.begin(), domains.end(), [&](auto domain) { return uriparse::host_is_within(target, domain); });
+    const std::string_view scheme_and_colon = std::string_view(target).substr(0, target.find(':') + 1);
+    const bool is_allowed = uriparse::equal(scheme_and_colon, "https:") && !uri.username() &&
+                            uri.host_kind() == URIPARSE_HOST_NAME && is_within && uriparse::host_flags(target) == 0 &&
+                            uri.port_number().value_or(443) == 443 && (!directory || uriparse::is_within(target, *directory));
+    return is_allowed ? std::optional(target) : std::nullopt;
+  } catch (const uriparse::error &) {
+    return std::nullopt;
+  }
+}
+
 // Whether a call throws an error with this code, argument and place.
 template <class Call> static bool throws(Call call, std::uint32_t code, std::size_t argument, std::size_t place) {
   try {
     call();
   } catch (const uriparse::error &error) {
-    return error.code == code && error.argument == argument && error.place == place && error.component() == (code & 0xf0) &&
+    return error.code == code && error.argument == argument && error.place == place && error.component() == uriparse_error_component(code) &&
            std::string_view(error.what()) == uriparse_error_text(code);
   }
   return false;
@@ -95,10 +116,58 @@ static void check_changes() {
   check(uriparse::replace("s:", changes) == "s://example.org:8080/" + path + "?", "a long path");
   check(throws([&] { uriparse::replace("a b", changes); }, URIPARSE_PATH_BYTE, 0, 1), "a change of no reference");
   changes.path = "a?";
-  check(throws([&] { uriparse::replace("a", changes); }, URIPARSE_PATH_BYTE, 0, 0), "a path that is rejected");
+  check(throws([&] { uriparse::replace("a", changes); }, URIPARSE_PATH_BYTE, 1, 1), "a path that is rejected");
   changes.path = {};
   changes.host = std::nullopt;
-  check(throws([&] { uriparse::replace("//h", changes); }, URIPARSE_MISSING_HOST, 0, 0), "a port without a host");
+  check(throws([&] { uriparse::replace("//h", changes); }, URIPARSE_MISSING_HOST, 1, 0), "a port without a host");
+  // The strings of changes are owned: each is set in a statement of its own, by a temporary.
+  uriparse::changes owning;
+  owning.query = std::string(100, 'q');
+  owning.fragment = std::optional<std::string>(std::string(100, 'f'));
+  check(uriparse::replace("a", owning) == "a?" + std::string(100, 'q') + "#" + std::string(100, 'f'), "changes own their strings");
+  const uriparse::reference other("//k:1/p?x"), bare("a");
+  uriparse::changes copied;
+  copied.host = other.host(), copied.port = other.port(), copied.path = other.path(), copied.query = other.query(), copied.fragment = bare.fragment();
+  check(uriparse::replace("s:#f", copied) == "s://k:1/p?x", "components of another reference");
+  copied.host = bare.host(), copied.port = bare.port();
+  check(uriparse::replace("//h:2/a", copied) == "/p?x", "absent components of another reference");
+  static_assert(!std::is_constructible_v<uriparse::change, std::nullptr_t> && !std::is_assignable_v<uriparse::change &, std::nullptr_t>);
+  static_assert(!std::is_constructible_v<uriparse::change, int> && std::is_constructible_v<uriparse::change, uriparse::view>);
+  static_assert(std::is_constructible_v<uriparse::change, const char (&)[3]> && std::is_constructible_v<uriparse::change, std::nullopt_t>);
+}
+
+// What takes nullptr for a string: nothing does.
+template <class Call, class... Arguments> static constexpr bool takes(Call, Arguments...) { return std::is_invocable_v<Call, Arguments...>; }
+
+static void check_null() {
+  const auto set = [](auto value) -> decltype(uriparse::with_pair("a", "b", value)) { return uriparse::with_pair("a", "b", value); };
+  const auto append = [](auto value) -> decltype(uriparse::with_appended_pair("a", "b", value)) { return uriparse::with_appended_pair("a", "b", value); };
+  static_assert(!std::is_invocable_v<decltype(set), std::nullptr_t> && std::is_invocable_v<decltype(set), std::nullopt_t>);
+  static_assert(!std::is_invocable_v<decltype(append), std::nullptr_t> && std::is_invocable_v<decltype(append), const char *>);
+  static_assert(!std::is_convertible_v<std::nullptr_t, uriparse::input> && !std::is_convertible_v<int, uriparse::input>);
+  static_assert(std::is_convertible_v<std::string, uriparse::input> && std::is_convertible_v<const char *, uriparse::input>);
+  static_assert(!takes(uriparse::normalize, nullptr) && !takes(uriparse::is_uri, nullptr) && !takes(uriparse::first_fault, nullptr));
+  static_assert(!takes(uriparse::equal, nullptr, "") && !takes(uriparse::resolve, "", nullptr) && takes(uriparse::resolve, "", ""));
+  static_assert(!std::is_constructible_v<uriparse::reference, std::nullptr_t> && !std::is_constructible_v<uriparse::pairs, std::nullptr_t>);
+  static_assert(!std::is_constructible_v<uriparse::pairs, std::optional<std::string>> && std::is_constructible_v<uriparse::pairs, std::optional<std::string> &>);
+  static_assert(!std::is_invocable_v<decltype(uriparse_parse), std::string *, std::size_t, uriparse_parts *>);
+  static_assert(std::is_invocable_v<decltype(uriparse_parse), std::byte *, std::size_t, uriparse_parts *>);
+  check(set(std::nullopt) == "a?b" && append("") == "a?b=", "a value that is absent");
+}
+
+static void check_relations() {
+  const uriparse::reference one("HTTP://h:9/%7e"), same("http://H:9/~"), other("http://h:10/~");
+  check(one == same && !(one != same) && one != other && one < other && other > one && one <= same && one >= same && !(one < same), "operators");
+  const std::hash<uriparse::reference> hash;
+  check(hash(one) == hash(same) && hash(one) == uriparse::hash("HTTP://h:9/%7e") && hash(one) != hash(other), "std::hash");
+  const std::unordered_set<uriparse::reference> set{one, same, other};
+  check(set.size() == 2 && std::set<uriparse::reference>{one, same, other}.size() == 2, "sets of references");
+  const auto parsed = uriparse::reference::try_parse("//h?q");
+  check(parsed && parsed->host() == "h" && parsed->query() == "q" && !uriparse::reference::try_parse("a b"), "try_parse");
+  static_assert(noexcept(uriparse::reference::try_parse(std::declval<const uriparse::input &>())) && noexcept(one == same));
+#if __cplusplus >= 202002L
+  check((one <=> other) < 0 && std::is_eq(one <=> same), "three-way comparison");
+#endif
 }
 
 // A string that needs more room than the calls give it at first.
@@ -167,7 +236,7 @@ static void check_checks() {
   check(uriparse::with_appended_pair("?a=1", "a", "") == "?a=1&a=", "with_appended_pair");
   check(uriparse::without_pairs("http://h/?utm_source=x&q=1&%75tm_id=2&gclid#f", "utm_*&gclid") == "http://h/?q=1#f"
             && uriparse::without_pairs("?utm_a#f", "utm_*") == "#f" && uriparse::without_pairs("a", "b") == "a", "without_pairs");
-  check(throws([] { uriparse::without_pairs("?a", "b#"); }, URIPARSE_BAD_NAMES, 1, 0), "without_pairs rejects");
+  check(throws([] { uriparse::without_pairs("?a", "b#"); }, URIPARSE_BAD_NAMES, 1, 1), "without_pairs rejects");
   check(uriparse::encode(URIPARSE_PAIR, "a&b=c d+") == "a%26b%3Dc%20d%2B", "encode a pair");
 }
 
@@ -182,14 +251,33 @@ static void check_pairs() {
   check(count == 4, "pairs twice");
 }
 
+// The redirects of tests/hostile.tsv.
+static void check_redirects() {
+  hostile_row row;
+  int count = 0;
+  std::FILE *const file = std::fopen("../../tests/hostile.tsv", "r");
+  while (file && read_hostile_row(file, &row)) {
+    const std::string_view call = row.call;
+    if (call.substr(0, 8) != "redirect") continue;
+    const auto target = allowed_target(row.other, row.text, call == "redirect" ? std::nullopt : std::optional<std::string_view>(row.other));
+    check(target.has_value() == (row.answer == std::string_view("yes")), row.text);
+    count++;
+  }
+  check(count >= 60, "redirects");
+  if (file) std::fclose(file);
+}
+
 int main() {
   check_components();
   check_calls();
   check_changes();
+  check_null();
+  check_relations();
   check_room();
   check_errors();
   check_checks();
   check_pairs();
+  check_redirects();
   check(search_of("http://example.com/a/", "../find?x&q=R%26D#top") == "example.com: R&D", "search");
   check(search_of("http://h", "?a=1") == "no search" && search_of("http://h", "a b") == "invalid byte in the path at byte 1", "no search");
   std::printf("%d passed, %d failed\n", passed, failed);

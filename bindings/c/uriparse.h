@@ -9,8 +9,8 @@
  *
  * Texts are bytes with a length in bytes, and need no zero byte at their end. A zero byte in a text is rejected like
  * any other byte that no URI has. An empty text may be NULL with length 0: the calls below allow it, and `out` too may
- * be NULL if `room` is 0. Each other pointer is valid and aligned for its type, each text readable for its whole
- * length, and `out` writable for `room` bytes. A length is at most PTRDIFF_MAX.
+ * be NULL if `room` is 0. NULL with a greater length ends the program. Each other pointer is valid and aligned for its
+ * type, each text readable for its whole length, and `out` writable for `room` bytes. A length is at most PTRDIFF_MAX.
  *
  * A text isn't written and isn't kept: after the call nothing points into it. Its bytes are initialized, and nothing
  * changes them during the call, be it another thread, a signal handler or another process that shares the memory: a
@@ -31,12 +31,18 @@
 #include <stdbool.h>
 #include <stddef.h>
 #include <stdint.h>
+#include <stdlib.h>
+#if defined(__cplusplus) && __cplusplus >= 201703L
+extern "C++" {
+#include <cstddef>
+}
+#endif
 
 #define URIPARSE_VERSION "0.3.0"
 
 /* What a call returns. The error of a text is its first one: of the authority (user name, password, host, port), then
  * of the path, the colon rule, the query, the fragment; and within each of these the leftmost one.
- * `code & URIPARSE_COMPONENT_MASK` is the component, one of uriparse_component, or 0 for the codes below 0x10.
+ * `uriparse_error_component` returns the component that a code is about: `code & URIPARSE_COMPONENT_MASK` for the codes from 0x10 on.
  * `code & URIPARSE_IN_BASE` is set if `uriparse_resolve`, `uriparse_relativize` or `uriparse_is_within` rejects the base, or
  * `uriparse_host_is_within` the domain. Later versions may add codes. */
 enum uriparse_code {
@@ -98,8 +104,9 @@ enum uriparse_host_kind {
 
 /* What a name of a host may be taken for: RFC 3986, section 7.4. An address has no flag. */
 enum uriparse_host_flag {
-  URIPARSE_HIDES_ADDRESS = 1, /* a name whose canonical spelling is that of an IPv4 address: "%31.2.3.4" */
-  URIPARSE_MAY_BE_NUMERIC = 2 /* a name whose last label begins with a digit: "2130706433", "0x7f.1", "127.1" */
+  URIPARSE_HIDES_ADDRESS = 1,  /* a name whose canonical spelling is that of an IPv4 address: "%31.2.3.4" */
+  URIPARSE_MAY_BE_NUMERIC = 2, /* a name whose last label begins with a digit: "2130706433", "0x7f.1", "127.1" */
+  URIPARSE_HAS_ESCAPES = 4     /* a name whose canonical spelling has an escape: "evil.org%2F.example.com" */
 };
 
 /* The components of a reference as its text spells them: without their delimiters (':', "//", '@', '?', '#'), not
@@ -161,7 +168,7 @@ enum uriparse_component {
   URIPARSE_QUERY = 0x60,
   URIPARSE_FRAGMENT = 0x70,
   URIPARSE_SCHEME = 0x80,  /* of an error alone */
-  URIPARSE_PAIR = 0x90     /* of `uriparse_encode` alone: a name or a value of a pair, in which '&', '=' and '+' become escapes too */
+  URIPARSE_PAIR = 0x90     /* of `uriparse_encode` alone: a name or a value of a pair, in which '&', '=', '+' and '*' become escapes too */
 };
 
 #ifdef __cplusplus
@@ -217,7 +224,12 @@ uint32_t uriparse_compare(const uint8_t *left, size_t left_len, const uint8_t *r
  * fragment don't count. A base whose path has no slash has nothing below it but what has the same path.
  *
  * A URI isn't below the base if a segment after the directory is one that servers read in different ways: one with an
- * escaped '/', '\', '%' or zero byte, or "." or ".." followed by ';' ("/app/..;/admin", "/app/..%2fadmin").
+ * escaped '/', '\', '%' or zero byte, or "." or ".." followed by ';' or by an escaped ';', '?' or '#' ("/app/..;/admin",
+ * "/app/..%2fadmin"). Nor is it if a double-dot segment of its path removes such a segment, or one that is empty or has nothing
+ * before one of these ("/app/..;/../a", "/app//../a"). The segments of the directory itself aren't looked at.
+ *
+ * Hand on the normal form, or the target of `uriparse_resolve`, not the text: in that a server that doesn't take "%2e%2e" for
+ * ".." reads another path.
  *
  * Both texts need a scheme (URIPARSE_NO_SCHEME). If both are faulty, the error is the first one's. Does not allocate.
  *
@@ -228,7 +240,8 @@ uint32_t uriparse_is_within(const uint8_t *text, size_t len, const uint8_t *base
  * and the labels of the reference's host, which dots separate, end with all labels of the domain. Names are compared in
  * canonical spelling, and one dot at the end of either is ignored. "evilexample.com" isn't within "example.com". A name
  * with an empty label is within nothing but its equals, and so is an address, and a name whose canonical spelling is that
- * of an IPv4 address. Without a host it is false.
+ * of an IPv4 address. A name with an escape in canonical spelling, such as "evil.org%2F.example.com", is within nothing but its
+ * equals, and nothing else is within it. Without a host it is false.
  *
  * The domain is a host as `uriparse_parse` finds it; its error has URIPARSE_IN_BASE. If both texts are faulty, the error is
  * the reference's. Does not allocate.
@@ -316,10 +329,11 @@ uint32_t uriparse_origin(const uint8_t *text, size_t len, uint8_t *out, size_t r
  * that is kept. After an authority a path that isn't empty gets a leading '/'; an empty one stands for "/", and becomes
  * that if the authority is removed.
  *
- * The first error is returned: URIPARSE_BAD_CHANGE, URIPARSE_MISSING_HOST, then the error of the first component of the
- * result, in the order of the fields, which is as a reader of that component alone reports it. Without an authority the
- * path may not start with "//" (URIPARSE_TWO_SLASHES), and with neither a scheme nor an authority no colon precedes its
- * first slash (URIPARSE_COLON_IN_SEGMENT). Does not allocate.
+ * The first error is returned: that of the text as it is, also in a component that changes, then URIPARSE_BAD_CHANGE,
+ * URIPARSE_MISSING_HOST, then the error of the first component of the result, in the order of the fields, which is as a
+ * reader of that component alone reports it. Without an authority the path may not start with "//"
+ * (URIPARSE_TWO_SLASHES), and with neither a scheme nor an authority no colon precedes its first slash
+ * (URIPARSE_COLON_IN_SEGMENT). Does not allocate.
  *
  * The caller ensures: `text` is readable for `len` bytes and `values` for `values_len`; `changes` is initialized; `out` is
  * writable for `room` bytes; `needed` is writable. */
@@ -394,8 +408,9 @@ uint32_t uriparse_decode(const uint8_t *text, size_t len, uint8_t *out, size_t r
 
 /* Writes to `out` any bytes as the text of a component, one of uriparse_component, as `uriparse_decode` writes: a byte
  * that the component may have stays, and each other becomes an escape with upper-case digits, '%' too.
- * `uriparse_decode` returns the bytes again. In a query '&', '=' and '+' stay; as URIPARSE_PAIR they become escapes too, so
- * a name or a value can be made of any bytes: "a&b=c d+" becomes "a%26b%3Dc%20d%2B". Returns URIPARSE_NO_COMPONENT for a
+ * `uriparse_decode` returns the bytes again. In a query '&', '=', '+' and '*' stay; as URIPARSE_PAIR they become escapes too,
+ * so a name or a value can be made of any bytes: "a&b=c d+" becomes "a%26b%3Dc%20d%2B", and "a*" becomes "a%2A", which
+ * `uriparse_drop_pairs` takes for that name alone. Returns URIPARSE_NO_COMPONENT for a
  * host, a port or another number. Does not allocate.
  *
  * The caller ensures: `bytes` is readable for `len` bytes; `out` is writable for `room` bytes; `needed` is writable. */
@@ -416,181 +431,196 @@ uint32_t uriparse_escape(const uint8_t *text, size_t len, uint8_t *out, size_t r
 } // namespace uriparse_c
 #endif
 
-/* The functions themselves accept no NULL. With what follows, inline functions in C++ and macros in C, each call accepts
- * NULL with length 0, and a text of any byte type, such as `const char *`. In C++ the functions themselves are in the
- * namespace `uriparse_c`. */
+/* The functions themselves accept no NULL. With what follows, inline functions that have the functions' names, each call
+ * accepts NULL with length 0. NULL with a greater length ends the program by `abort`. In C a text is of any type. In C++ it
+ * is of `char`, of another type of bytes or of `void`, so that the address of a `std::string` isn't taken for its
+ * bytes; and the functions themselves are in the namespace `uriparse_c`. */
 #ifdef __cplusplus
 extern "C++" {
 
+/* The types of bytes. */
+template <class Other> struct uriparse_type { typedef int is_no_byte; };
+template <> struct uriparse_type<char> { typedef int is_byte; };
+template <> struct uriparse_type<signed char> { typedef int is_byte; };
+template <> struct uriparse_type<unsigned char> { typedef int is_byte; };
+#if __cplusplus >= 201703L
+template <> struct uriparse_type<std::byte> { typedef int is_byte; };
+#endif
+#ifdef __cpp_char8_t
+template <> struct uriparse_type<char8_t> { typedef int is_byte; };
+#endif
+
+/* A pointer to the bytes of a text. */
+class uriparse_bytes {
+  const void *at_;
+
+public:
+  uriparse_bytes(const void *at) : at_(at) {}
+  template <class Byte> uriparse_bytes(const Byte *at, typename uriparse_type<Byte>::is_byte = 0) : at_(at) {}
+  template <class Other> uriparse_bytes(const Other *, typename uriparse_type<Other>::is_no_byte = 0) = delete;
+  operator const void *() const { return at_; }
+};
+
+/* A pointer to a buffer. */
+class uriparse_buffer {
+  void *at_;
+
+public:
+  uriparse_buffer(void *at) : at_(at) {}
+  template <class Byte> uriparse_buffer(Byte *at, typename uriparse_type<Byte>::is_byte = 0) : at_(at) {}
+  template <class Other> uriparse_buffer(Other *, typename uriparse_type<Other>::is_no_byte = 0) = delete;
+  operator void *() const { return at_; }
+};
+
+#define URIPARSE_INLINE inline
+#define URIPARSE_CAST(type, value) static_cast<type>(value)
+#define URIPARSE_CALL(name) uriparse_##name
+#define URIPARSE_PROVED(name) uriparse_c::uriparse_##name
+#else
+typedef const void *uriparse_bytes;
+typedef void *uriparse_buffer;
+
+#define URIPARSE_INLINE static inline
+#define URIPARSE_CAST(type, value) ((type)(value))
+#define URIPARSE_CALL(name) uriparse_##name##_
+#define URIPARSE_PROVED(name) uriparse_##name
+#endif
+
 /* A pointer for a text, or for a buffer, that isn't NULL. */
-inline const uint8_t *uriparse_text(const void *text) { return static_cast<const uint8_t *>(text ? text : ""); }
+URIPARSE_INLINE const uint8_t *uriparse_text(const void *text, size_t len) {
+  if (text == NULL && len > 0) abort();
+  return URIPARSE_CAST(const uint8_t *, text != NULL ? text : "");
+}
 
-inline uint8_t *uriparse_room(void *out) {
+URIPARSE_INLINE uint8_t *uriparse_room(void *out, size_t room) {
   static uint8_t none;
-  return out ? static_cast<uint8_t *>(out) : &none;
+  if (out == NULL && room > 0) abort();
+  return out != NULL ? URIPARSE_CAST(uint8_t *, out) : &none;
 }
 
-inline uint32_t uriparse_parse(const void *text, size_t len, uriparse_parts *parts) {
-  return uriparse_c::uriparse_parse(uriparse_text(text), len, parts);
+URIPARSE_INLINE uint32_t URIPARSE_CALL(parse)(uriparse_bytes text, size_t len, struct uriparse_parts *parts) {
+  return URIPARSE_PROVED(parse)(uriparse_text(text, len), len, parts);
 }
 
-inline uint32_t uriparse_first_fault(const void *text, size_t len, size_t *place) {
-  return uriparse_c::uriparse_first_fault(uriparse_text(text), len, place);
+URIPARSE_INLINE uint32_t URIPARSE_CALL(first_fault)(uriparse_bytes text, size_t len, size_t *place) {
+  return URIPARSE_PROVED(first_fault)(uriparse_text(text, len), len, place);
 }
 
-inline bool uriparse_is_uri(const void *text, size_t len) {
-  return uriparse_c::uriparse_is_uri(uriparse_text(text), len);
+URIPARSE_INLINE bool URIPARSE_CALL(is_uri)(uriparse_bytes text, size_t len) {
+  return URIPARSE_PROVED(is_uri)(uriparse_text(text, len), len);
 }
 
-inline uint32_t uriparse_equal(const void *left, size_t left_len, const void *right, size_t right_len, bool *equal) {
-  return uriparse_c::uriparse_equal(uriparse_text(left), left_len, uriparse_text(right), right_len, equal);
+URIPARSE_INLINE uint32_t URIPARSE_CALL(equal)(uriparse_bytes left, size_t left_len, uriparse_bytes right, size_t right_len,
+                                              bool *equal) {
+  return URIPARSE_PROVED(equal)(uriparse_text(left, left_len), left_len, uriparse_text(right, right_len), right_len, equal);
 }
 
-inline uint32_t uriparse_compare(const void *left, size_t left_len, const void *right, size_t right_len, int32_t *order) {
-  return uriparse_c::uriparse_compare(uriparse_text(left), left_len, uriparse_text(right), right_len, order);
+URIPARSE_INLINE uint32_t URIPARSE_CALL(compare)(uriparse_bytes left, size_t left_len, uriparse_bytes right, size_t right_len,
+                                                int32_t *order) {
+  return URIPARSE_PROVED(compare)(uriparse_text(left, left_len), left_len, uriparse_text(right, right_len), right_len,
+                                  order);
 }
 
-inline uint32_t uriparse_is_within(const void *text, size_t len, const void *base, size_t base_len, bool *within) {
-  return uriparse_c::uriparse_is_within(uriparse_text(text), len, uriparse_text(base), base_len, within);
+URIPARSE_INLINE uint32_t URIPARSE_CALL(is_within)(uriparse_bytes text, size_t len, uriparse_bytes base, size_t base_len,
+                                                  bool *within) {
+  return URIPARSE_PROVED(is_within)(uriparse_text(text, len), len, uriparse_text(base, base_len), base_len, within);
 }
 
-inline uint32_t uriparse_host_is_within(const void *text, size_t len, const void *domain, size_t domain_len, bool *within) {
-  return uriparse_c::uriparse_host_is_within(uriparse_text(text), len, uriparse_text(domain), domain_len, within);
+URIPARSE_INLINE uint32_t URIPARSE_CALL(host_is_within)(uriparse_bytes text, size_t len, uriparse_bytes domain,
+                                                       size_t domain_len, bool *within) {
+  return URIPARSE_PROVED(host_is_within)(uriparse_text(text, len), len, uriparse_text(domain, domain_len), domain_len,
+                                         within);
 }
 
-inline uint32_t uriparse_host_flags(const void *text, size_t len, uint32_t *flags) {
-  return uriparse_c::uriparse_host_flags(uriparse_text(text), len, flags);
+URIPARSE_INLINE uint32_t URIPARSE_CALL(host_flags)(uriparse_bytes text, size_t len, uint32_t *flags) {
+  return URIPARSE_PROVED(host_flags)(uriparse_text(text, len), len, flags);
 }
 
-inline uint32_t uriparse_default_port(const void *scheme, size_t len) {
-  return uriparse_c::uriparse_default_port(uriparse_text(scheme), len);
+URIPARSE_INLINE uint32_t URIPARSE_CALL(default_port)(uriparse_bytes scheme, size_t len) {
+  return URIPARSE_PROVED(default_port)(uriparse_text(scheme, len), len);
 }
 
-inline uint32_t uriparse_hash(const void *text, size_t len, uint64_t *hash) {
-  return uriparse_c::uriparse_hash(uriparse_text(text), len, hash);
+URIPARSE_INLINE uint32_t URIPARSE_CALL(hash)(uriparse_bytes text, size_t len, uint64_t *hash) {
+  return URIPARSE_PROVED(hash)(uriparse_text(text, len), len, hash);
 }
 
-inline uint32_t uriparse_normalize(const void *text, size_t len, void *out, size_t room, size_t *needed) {
-  return uriparse_c::uriparse_normalize(uriparse_text(text), len, uriparse_room(out), room, needed);
+URIPARSE_INLINE uint32_t URIPARSE_CALL(normalize)(uriparse_bytes text, size_t len, uriparse_buffer out, size_t room,
+                                                  size_t *needed) {
+  return URIPARSE_PROVED(normalize)(uriparse_text(text, len), len, uriparse_room(out, room), room, needed);
 }
 
-inline uint32_t uriparse_resolve(const void *base, size_t base_len, const void *text, size_t len, void *out, size_t room,
-                                 size_t *needed) {
-  return uriparse_c::uriparse_resolve(uriparse_text(base), base_len, uriparse_text(text), len, uriparse_room(out), room,
+URIPARSE_INLINE uint32_t URIPARSE_CALL(resolve)(uriparse_bytes base, size_t base_len, uriparse_bytes text, size_t len,
+                                                uriparse_buffer out, size_t room, size_t *needed) {
+  return URIPARSE_PROVED(resolve)(uriparse_text(base, base_len), base_len, uriparse_text(text, len), len,
+                                  uriparse_room(out, room), room, needed);
+}
+
+URIPARSE_INLINE uint32_t URIPARSE_CALL(relativize)(uriparse_bytes base, size_t base_len, uriparse_bytes text, size_t len,
+                                                   uriparse_buffer out, size_t room, size_t *needed) {
+  return URIPARSE_PROVED(relativize)(uriparse_text(base, base_len), base_len, uriparse_text(text, len), len,
+                                     uriparse_room(out, room), room, needed);
+}
+
+URIPARSE_INLINE uint32_t URIPARSE_CALL(origin)(uriparse_bytes text, size_t len, uriparse_buffer out, size_t room,
+                                               size_t *needed) {
+  return URIPARSE_PROVED(origin)(uriparse_text(text, len), len, uriparse_room(out, room), room, needed);
+}
+
+URIPARSE_INLINE uint32_t URIPARSE_CALL(change)(uriparse_bytes text, size_t len, const struct uriparse_changes *changes,
+                                               uriparse_bytes values, size_t values_len, uriparse_buffer out, size_t room,
+                                               size_t *needed) {
+  return URIPARSE_PROVED(change)(uriparse_text(text, len), len, changes, uriparse_text(values, values_len), values_len,
+                                 uriparse_room(out, room), room, needed);
+}
+
+URIPARSE_INLINE bool URIPARSE_CALL(next_pair)(uriparse_bytes query, size_t len, size_t at, struct uriparse_pair *pair) {
+  return URIPARSE_PROVED(next_pair)(uriparse_text(query, len), len, at, pair);
+}
+
+URIPARSE_INLINE bool URIPARSE_CALL(find_pair)(uriparse_bytes query, size_t len, uriparse_bytes name, size_t name_len,
+                                              struct uriparse_pair *pair) {
+  return URIPARSE_PROVED(find_pair)(uriparse_text(query, len), len, uriparse_text(name, name_len), name_len, pair);
+}
+
+URIPARSE_INLINE uint32_t URIPARSE_CALL(set_pair)(uriparse_bytes query, size_t len, uriparse_bytes name, size_t name_len,
+                                                 uriparse_bytes value, size_t value_len, bool has_value, uriparse_buffer out,
+                                                 size_t room, size_t *needed) {
+  return URIPARSE_PROVED(set_pair)(uriparse_text(query, len), len, uriparse_text(name, name_len), name_len,
+                                   uriparse_text(value, value_len), value_len, has_value, uriparse_room(out, room), room,
+                                   needed);
+}
+
+URIPARSE_INLINE uint32_t URIPARSE_CALL(append_pair)(uriparse_bytes query, size_t len, uriparse_bytes name, size_t name_len,
+                                                    uriparse_bytes value, size_t value_len, bool has_value,
+                                                    uriparse_buffer out, size_t room, size_t *needed) {
+  return URIPARSE_PROVED(append_pair)(uriparse_text(query, len), len, uriparse_text(name, name_len), name_len,
+                                      uriparse_text(value, value_len), value_len, has_value, uriparse_room(out, room), room,
                                       needed);
 }
 
-inline uint32_t uriparse_relativize(const void *base, size_t base_len, const void *text, size_t len, void *out,
-                                    size_t room, size_t *needed) {
-  return uriparse_c::uriparse_relativize(uriparse_text(base), base_len, uriparse_text(text), len, uriparse_room(out), room,
-                                         needed);
+URIPARSE_INLINE uint32_t URIPARSE_CALL(drop_pairs)(uriparse_bytes query, size_t len, uriparse_bytes names, size_t names_len,
+                                                   uriparse_buffer out, size_t room, size_t *needed) {
+  return URIPARSE_PROVED(drop_pairs)(uriparse_text(query, len), len, uriparse_text(names, names_len), names_len,
+                                     uriparse_room(out, room), room, needed);
 }
 
-inline uint32_t uriparse_origin(const void *text, size_t len, void *out, size_t room, size_t *needed) {
-  return uriparse_c::uriparse_origin(uriparse_text(text), len, uriparse_room(out), room, needed);
+URIPARSE_INLINE uint32_t URIPARSE_CALL(decode)(uriparse_bytes text, size_t len, uriparse_buffer out, size_t room,
+                                               size_t *needed) {
+  return URIPARSE_PROVED(decode)(uriparse_text(text, len), len, uriparse_room(out, room), room, needed);
 }
 
-inline uint32_t uriparse_change(const void *text, size_t len, const uriparse_changes *changes, const void *values,
-                                size_t values_len, void *out, size_t room, size_t *needed) {
-  return uriparse_c::uriparse_change(uriparse_text(text), len, changes, uriparse_text(values), values_len,
-                                     uriparse_room(out), room, needed);
+URIPARSE_INLINE uint32_t URIPARSE_CALL(encode)(uint32_t component, uriparse_bytes bytes, size_t len, uriparse_buffer out,
+                                               size_t room, size_t *needed) {
+  return URIPARSE_PROVED(encode)(component, uriparse_text(bytes, len), len, uriparse_room(out, room), room, needed);
 }
 
-inline bool uriparse_next_pair(const void *query, size_t len, size_t at, uriparse_pair *pair) {
-  return uriparse_c::uriparse_next_pair(uriparse_text(query), len, at, pair);
+URIPARSE_INLINE uint32_t URIPARSE_CALL(escape)(uriparse_bytes text, size_t len, uriparse_buffer out, size_t room,
+                                               size_t *needed) {
+  return URIPARSE_PROVED(escape)(uriparse_text(text, len), len, uriparse_room(out, room), room, needed);
 }
-
-inline bool uriparse_find_pair(const void *query, size_t len, const void *name, size_t name_len, uriparse_pair *pair) {
-  return uriparse_c::uriparse_find_pair(uriparse_text(query), len, uriparse_text(name), name_len, pair);
-}
-
-inline uint32_t uriparse_set_pair(const void *query, size_t len, const void *name, size_t name_len, const void *value,
-                                  size_t value_len, bool has_value, void *out, size_t room, size_t *needed) {
-  return uriparse_c::uriparse_set_pair(uriparse_text(query), len, uriparse_text(name), name_len, uriparse_text(value),
-                                       value_len, has_value, uriparse_room(out), room, needed);
-}
-
-inline uint32_t uriparse_append_pair(const void *query, size_t len, const void *name, size_t name_len, const void *value,
-                                     size_t value_len, bool has_value, void *out, size_t room, size_t *needed) {
-  return uriparse_c::uriparse_append_pair(uriparse_text(query), len, uriparse_text(name), name_len, uriparse_text(value),
-                                          value_len, has_value, uriparse_room(out), room, needed);
-}
-
-inline uint32_t uriparse_drop_pairs(const void *query, size_t len, const void *names, size_t names_len, void *out,
-                                    size_t room, size_t *needed) {
-  return uriparse_c::uriparse_drop_pairs(uriparse_text(query), len, uriparse_text(names), names_len, uriparse_room(out),
-                                         room, needed);
-}
-
-inline uint32_t uriparse_decode(const void *text, size_t len, void *out, size_t room, size_t *needed) {
-  return uriparse_c::uriparse_decode(uriparse_text(text), len, uriparse_room(out), room, needed);
-}
-
-inline uint32_t uriparse_encode(uint32_t component, const void *bytes, size_t len, void *out, size_t room,
-                                size_t *needed) {
-  return uriparse_c::uriparse_encode(component, uriparse_text(bytes), len, uriparse_room(out), room, needed);
-}
-
-inline uint32_t uriparse_escape(const void *text, size_t len, void *out, size_t room, size_t *needed) {
-  return uriparse_c::uriparse_escape(uriparse_text(text), len, uriparse_room(out), room, needed);
-}
-
-} // extern "C++"
-#else
-/* A pointer for a text, or for a buffer, that isn't NULL. */
-static inline const uint8_t *uriparse_text(const void *text) { return (const uint8_t *)(text ? text : ""); }
-
-static inline uint8_t *uriparse_room(void *out) {
-  static uint8_t none;
-  return out ? (uint8_t *)out : &none;
-}
-
-#define uriparse_parse(text, len, parts) (uriparse_parse)(uriparse_text(text), len, parts)
-#define uriparse_first_fault(text, len, place) (uriparse_first_fault)(uriparse_text(text), len, place)
-#define uriparse_is_uri(text, len) (uriparse_is_uri)(uriparse_text(text), len)
-#define uriparse_equal(left, left_len, right, right_len, equal)                                                        \
-  (uriparse_equal)(uriparse_text(left), left_len, uriparse_text(right), right_len, equal)
-#define uriparse_compare(left, left_len, right, right_len, order)                                                      \
-  (uriparse_compare)(uriparse_text(left), left_len, uriparse_text(right), right_len, order)
-#define uriparse_is_within(text, len, base, base_len, within)                                                          \
-  (uriparse_is_within)(uriparse_text(text), len, uriparse_text(base), base_len, within)
-#define uriparse_host_is_within(text, len, domain, domain_len, within)                                                 \
-  (uriparse_host_is_within)(uriparse_text(text), len, uriparse_text(domain), domain_len, within)
-#define uriparse_host_flags(text, len, flags) (uriparse_host_flags)(uriparse_text(text), len, flags)
-#define uriparse_default_port(scheme, len) (uriparse_default_port)(uriparse_text(scheme), len)
-#define uriparse_hash(text, len, hash) (uriparse_hash)(uriparse_text(text), len, hash)
-#define uriparse_normalize(text, len, out, room, needed)                                                               \
-  (uriparse_normalize)(uriparse_text(text), len, uriparse_room(out), room, needed)
-#define uriparse_resolve(base, base_len, text, len, out, room, needed)                                                 \
-  (uriparse_resolve)(uriparse_text(base), base_len, uriparse_text(text), len, uriparse_room(out), room, needed)
-#define uriparse_relativize(base, base_len, text, len, out, room, needed)                                              \
-  (uriparse_relativize)(uriparse_text(base), base_len, uriparse_text(text), len, uriparse_room(out), room, needed)
-#define uriparse_origin(text, len, out, room, needed)                                                                  \
-  (uriparse_origin)(uriparse_text(text), len, uriparse_room(out), room, needed)
-#define uriparse_change(text, len, changes, values, values_len, out, room, needed)                                     \
-  (uriparse_change)(uriparse_text(text), len, changes, uriparse_text(values), values_len, uriparse_room(out), room,    \
-                    needed)
-#define uriparse_next_pair(query, len, at, pair) (uriparse_next_pair)(uriparse_text(query), len, at, pair)
-#define uriparse_find_pair(query, len, name, name_len, pair)                                                           \
-  (uriparse_find_pair)(uriparse_text(query), len, uriparse_text(name), name_len, pair)
-#define uriparse_set_pair(query, len, name, name_len, value, value_len, has_value, out, room, needed)                  \
-  (uriparse_set_pair)(uriparse_text(query), len, uriparse_text(name), name_len, uriparse_text(value), value_len,       \
-                      has_value, uriparse_room(out), room, needed)
-#define uriparse_append_pair(query, len, name, name_len, value, value_len, has_value, out, room, needed)               \
-  (uriparse_append_pair)(uriparse_text(query), len, uriparse_text(name), name_len, uriparse_text(value), value_len,    \
-                         has_value, uriparse_room(out), room, needed)
-#define uriparse_drop_pairs(query, len, names, names_len, out, room, needed)                                           \
-  (uriparse_drop_pairs)(uriparse_text(query), len, uriparse_text(names), names_len, uriparse_room(out), room, needed)
-#define uriparse_decode(text, len, out, room, needed)                                                                  \
-  (uriparse_decode)(uriparse_text(text), len, uriparse_room(out), room, needed)
-#define uriparse_encode(component, bytes, len, out, room, needed)                                                      \
-  (uriparse_encode)(component, uriparse_text(bytes), len, uriparse_room(out), room, needed)
-#define uriparse_escape(text, len, out, room, needed)                                                                  \
-  (uriparse_escape)(uriparse_text(text), len, uriparse_room(out), room, needed)
-#endif
 
 /* What a code means, in English. */
-static inline const char *uriparse_error_text(uint32_t code) {
+URIPARSE_INLINE const char *uriparse_error_text(uint32_t code) {
   switch (code & ~(0u | URIPARSE_IN_BASE)) {
   case URIPARSE_OK: return "no error";
   case URIPARSE_OUT_OF_MEMORY: return "out of memory";
@@ -630,7 +660,54 @@ static inline const char *uriparse_error_text(uint32_t code) {
   }
 }
 
+/* The component that a code is about, one of uriparse_component, or 0 if it is about none. It is that of
+ * URIPARSE_COMPONENT_MASK, and of the codes below 0x10 the scheme that is missing, the path, the host or the query. */
+URIPARSE_INLINE uint32_t uriparse_error_component(uint32_t code) {
+  switch (code & ~(0u | URIPARSE_IN_BASE)) {
+  case URIPARSE_NO_SCHEME: return URIPARSE_SCHEME;
+  case URIPARSE_MISSING_HOST: return URIPARSE_HOST;
+  case URIPARSE_COLON_IN_SEGMENT:
+  case URIPARSE_TOO_MANY_SEGMENTS:
+  case URIPARSE_TWO_SLASHES: return URIPARSE_SEGMENT;
+  case URIPARSE_BAD_NAMES:
+  case URIPARSE_NO_PAIRS: return URIPARSE_QUERY;
+  default: return code & URIPARSE_COMPONENT_MASK;
+  }
+}
+
 /* The version of the header. */
-static inline const char *uriparse_version(void) { return URIPARSE_VERSION; }
+URIPARSE_INLINE const char *uriparse_version(void) { return URIPARSE_VERSION; }
+
+#ifdef __cplusplus
+} // extern "C++"
+#else
+#define uriparse_parse(...) uriparse_parse_(__VA_ARGS__)
+#define uriparse_first_fault(...) uriparse_first_fault_(__VA_ARGS__)
+#define uriparse_is_uri(...) uriparse_is_uri_(__VA_ARGS__)
+#define uriparse_equal(...) uriparse_equal_(__VA_ARGS__)
+#define uriparse_compare(...) uriparse_compare_(__VA_ARGS__)
+#define uriparse_is_within(...) uriparse_is_within_(__VA_ARGS__)
+#define uriparse_host_is_within(...) uriparse_host_is_within_(__VA_ARGS__)
+#define uriparse_host_flags(...) uriparse_host_flags_(__VA_ARGS__)
+#define uriparse_default_port(...) uriparse_default_port_(__VA_ARGS__)
+#define uriparse_hash(...) uriparse_hash_(__VA_ARGS__)
+#define uriparse_normalize(...) uriparse_normalize_(__VA_ARGS__)
+#define uriparse_resolve(...) uriparse_resolve_(__VA_ARGS__)
+#define uriparse_relativize(...) uriparse_relativize_(__VA_ARGS__)
+#define uriparse_origin(...) uriparse_origin_(__VA_ARGS__)
+#define uriparse_change(...) uriparse_change_(__VA_ARGS__)
+#define uriparse_next_pair(...) uriparse_next_pair_(__VA_ARGS__)
+#define uriparse_find_pair(...) uriparse_find_pair_(__VA_ARGS__)
+#define uriparse_set_pair(...) uriparse_set_pair_(__VA_ARGS__)
+#define uriparse_append_pair(...) uriparse_append_pair_(__VA_ARGS__)
+#define uriparse_drop_pairs(...) uriparse_drop_pairs_(__VA_ARGS__)
+#define uriparse_decode(...) uriparse_decode_(__VA_ARGS__)
+#define uriparse_encode(...) uriparse_encode_(__VA_ARGS__)
+#define uriparse_escape(...) uriparse_escape_(__VA_ARGS__)
+#endif
+#undef URIPARSE_INLINE
+#undef URIPARSE_CAST
+#undef URIPARSE_CALL
+#undef URIPARSE_PROVED
 
 #endif

@@ -1,12 +1,17 @@
 // The calls of uriparse.h, which says what each does, for C++17. A rejected string throws `uriparse::error`, and what is absent
-// is std::nullopt. The views of a reference or a pair point into the string that was read, which must outlive them unchanged.
+// is std::nullopt; nullptr is no string, and doesn't compile. The views of a reference or a pair point into the string that was read,
+// which must outlive them unchanged.
 #ifndef URIPARSE_HPP
 #define URIPARSE_HPP
 
 #include "uriparse.h"
 
+#if __cplusplus >= 202002L
+#include <compare>
+#endif
 #include <cstddef>
 #include <cstdint>
+#include <functional>
 #include <optional>
 #include <stdexcept>
 #include <string>
@@ -18,26 +23,66 @@
 namespace uriparse {
 using view = std::optional<std::string_view>;
 
+// A string that a call reads: whatever is implicitly a std::string_view, except nullptr.
+struct input : std::string_view {
+  input() noexcept = default;
+  template <class Text, class = std::enable_if_t<std::is_convertible_v<const Text &, std::string_view> && !std::is_null_pointer_v<Text>>>
+  input(const Text &text) : std::string_view(text) {}
+};
+
 // One of uriparse_code, and how many bytes of a string precede its first fault.
 struct fault { std::uint32_t code; std::size_t place; };
 
-inline std::optional<fault> first_fault(std::string_view text) noexcept {
+inline std::optional<fault> first_fault(input text) noexcept {
   fault found{URIPARSE_OK, 0};
   found.code = uriparse_first_fault(text.data(), text.size(), &found.place);
   return found.code == URIPARSE_OK ? std::nullopt : std::optional(found);
 }
 
-// Why a call rejects its string, or the second of two if `argument` is 1. `place` is 0 if that string isn't wrong by itself, such
-// as a base without a scheme. `component()` is one of uriparse_component, or 0.
+// Why a call rejects its first argument, or its second one if `argument` is 1: that of `replace` is its changes, and the wrong one is
+// `component()`'s. `place` counts the bytes that precede the first wrong one of that string; without `has_place` it is 0, and no byte of
+// the string is wrong by itself, as in a base without a scheme. `component()` is one of uriparse_component, or 0.
 struct error : std::runtime_error, fault {
-  error(fault why, std::size_t which) : std::runtime_error(uriparse_error_text(why.code)), fault(why), argument(which) {}
-  std::uint32_t component() const noexcept { return code & URIPARSE_COMPONENT_MASK; }
+  error(fault why, std::size_t which) : std::runtime_error(uriparse_error_text(why.code)), fault(why), argument(which), has_place(true) {}
+  error(std::uint32_t why, std::optional<std::size_t> where, std::size_t which)
+      : std::runtime_error(uriparse_error_text(why)), fault{why & ~std::uint32_t{URIPARSE_IN_BASE}, where.value_or(0)}, argument(which),
+        has_place(where) {}
+  std::uint32_t component() const noexcept { return uriparse_error_component(code); }
   std::size_t argument;
+  bool has_place;
 };
 
 namespace detail {
+inline std::optional<std::size_t> place_of(input text) noexcept {
+  const auto found = first_fault(text);
+  return found ? std::optional(found->place) : std::nullopt;
+}
+
+// Where the text of a component is wrong by itself, by a reference that has it. There each byte that would end the component is
+// replaced by one that no component has.
+inline std::optional<std::size_t> place_in(std::uint32_t component, std::string_view text) {
+  static constexpr struct rule { std::uint32_t component; const char *before, *ends, *after; } rules[] = {
+      {URIPARSE_USERNAME, "//", "/?#@:[]", "@"}, {URIPARSE_PASSWORD, "//:", "/?#@[]", "@"}, {URIPARSE_HOST, "//", "/?#@", ""},
+      {URIPARSE_PORT, "//:", "/?#@:[]", ""}, {URIPARSE_SEGMENT, "//h/", "?#", ""}, {URIPARSE_QUERY, "?", "#", ""}, {URIPARSE_FRAGMENT, "#", "", ""}};
+  for (const rule &one : rules) {
+    if (one.component != component) continue;
+    const std::string_view before = one.before, ends = one.ends;
+    std::string read(before);
+    bool is_in_brackets = component == URIPARSE_HOST && text.substr(0, 1) == "[";
+    for (const char byte : text) {
+      is_in_brackets = is_in_brackets && byte != ']';
+      const bool is_end = ends.find(byte) != ends.npos || (component == URIPARSE_HOST && byte == ':' && !is_in_brackets);
+      read += is_end ? '^' : byte;
+    }
+    const auto place = place_of(read += one.after);
+    return place ? std::optional(*place - before.size()) : std::nullopt;
+  }
+  return std::nullopt;
+}
+
 inline void check(std::uint32_t code, std::string_view text, std::size_t argument = 0) {
-  if (code != URIPARSE_OK) throw error({code & ~std::uint32_t{URIPARSE_IN_BASE}, first_fault(text).value_or(fault{}).place}, argument);
+  const bool has_scheme = (code & ~std::uint32_t{URIPARSE_IN_BASE}) != URIPARSE_NO_SCHEME;
+  if (code != URIPARSE_OK) throw error(code, has_scheme ? place_of(text) : std::nullopt, argument);
 }
 
 inline void check(std::uint32_t code, std::string_view first, std::string_view second) {
@@ -70,17 +115,34 @@ template <class Call, class... Texts> std::string write(Call call, Texts... text
 inline view cut(std::string_view text, uriparse_span span) noexcept {
   return span.present ? view(std::string_view(text.data() + span.begin, span.end - span.begin)) : std::nullopt;
 }
-template <class Text> using if_temporary = std::enable_if_t<std::is_same_v<std::remove_cv_t<Text>, std::string>>;
+
+// Whether views of what an argument was, or of nullptr, point to nothing after the call: `Text &&` of a temporary is no reference.
+template <class Text> struct dangles : std::is_null_pointer<Text> {};
+template <class Text> struct dangles<const Text> : dangles<Text> {};
+template <class Traits, class Memory> struct dangles<std::basic_string<char, Traits, Memory>> : std::true_type {};
+template <class Text> struct dangles<std::optional<Text>> : dangles<Text> {};
+template <class Text> using if_dangling = std::enable_if_t<dangles<Text>::value>;
+template <class Text> using if_null = std::enable_if_t<std::is_null_pointer_v<Text>>;
 } // namespace detail
 
-// A URI or a relative reference: views of its components. It isn't made from a temporary std::string.
+// A URI or a relative reference: views of its components. It isn't made from a temporary std::string. References are compared and hashed
+// as `equal`, `compare` and `hash` do it.
 class reference {
   std::string_view text_;
   uriparse_parts parts_;
 
+  reference(std::string_view text, const uriparse_parts &parts) noexcept : text_(text), parts_(parts) {}
+
 public:
-  explicit reference(std::string_view text) : text_(text), parts_(detail::read<uriparse_parts>(uriparse_parse, text)) {}
-  template <class Text, class = detail::if_temporary<Text>> explicit reference(Text &&) = delete;
+  explicit reference(input text) : text_(text), parts_(detail::read<uriparse_parts>(uriparse_parse, text)) {}
+  template <class Text, class = detail::if_dangling<Text>> explicit reference(Text &&) = delete;
+
+  // The reference, or std::nullopt for a string that is none: `first_fault` says why.
+  static std::optional<reference> try_parse(input text) noexcept {
+    uriparse_parts parts;
+    return uriparse_parse(text.data(), text.size(), &parts) == URIPARSE_OK ? std::optional(reference(text, parts)) : std::nullopt;
+  }
+  template <class Text, class = detail::if_dangling<Text>> static std::optional<reference> try_parse(Text &&) = delete;
   std::string_view text() const noexcept { return text_; }
   view scheme() const noexcept { return detail::cut(text_, parts_.scheme); }
   view authority() const noexcept { return detail::cut(text_, parts_.authority); }
@@ -95,18 +157,33 @@ public:
   std::optional<std::uint32_t> port_number() const noexcept {           // absent without a digit
     return parts_.port.begin < parts_.port.end ? std::optional(parts_.port_number) : std::nullopt;
   }
+  int compare(const reference &other) const noexcept {
+    std::int32_t order = 0;
+    uriparse_compare(text_.data(), text_.size(), other.text_.data(), other.text_.size(), &order);
+    return order;
+  }
+  friend bool operator==(const reference &left, const reference &right) noexcept { return left.compare(right) == 0; }
+#if __cplusplus >= 202002L
+  friend std::weak_ordering operator<=>(const reference &left, const reference &right) noexcept { return left.compare(right) <=> 0; }
+#else
+  friend bool operator!=(const reference &left, const reference &right) noexcept { return left.compare(right) != 0; }
+  friend bool operator<(const reference &left, const reference &right) noexcept { return left.compare(right) < 0; }
+  friend bool operator>(const reference &left, const reference &right) noexcept { return left.compare(right) > 0; }
+  friend bool operator<=(const reference &left, const reference &right) noexcept { return left.compare(right) <= 0; }
+  friend bool operator>=(const reference &left, const reference &right) noexcept { return left.compare(right) >= 0; }
+#endif
 };
 
-inline bool is_uri(std::string_view text) noexcept { return uriparse_is_uri(text.data(), text.size()); }
-inline bool equal(std::string_view left, std::string_view right) { return detail::read<bool>(uriparse_equal, left, right); }
-inline int compare(std::string_view left, std::string_view right) { return detail::read<std::int32_t>(uriparse_compare, left, right); }
-inline std::uint64_t hash(std::string_view text) { return detail::read<std::uint64_t>(uriparse_hash, text); }
-inline std::string normalize(std::string_view text) { return detail::write(uriparse_normalize, text); }
-inline std::string escape(std::string_view text) { return detail::write(uriparse_escape, text); }
-inline std::string resolve(std::string_view base, std::string_view text) { return detail::write(uriparse_resolve, base, text); }
-inline std::string relativize(std::string_view base, std::string_view uri) { return detail::write(uriparse_relativize, base, uri); }
+inline bool is_uri(input text) noexcept { return uriparse_is_uri(text.data(), text.size()); }
+inline bool equal(input left, input right) { return detail::read<bool>(uriparse_equal, left, right); }
+inline int compare(input left, input right) { return detail::read<std::int32_t>(uriparse_compare, left, right); }
+inline std::uint64_t hash(input text) { return detail::read<std::uint64_t>(uriparse_hash, text); }
+inline std::string normalize(input text) { return detail::write(uriparse_normalize, text); }
+inline std::string escape(input text) { return detail::write(uriparse_escape, text); }
+inline std::string resolve(input base, input text) { return detail::write(uriparse_resolve, base, text); }
+inline std::string relativize(input base, input uri) { return detail::write(uriparse_relativize, base, uri); }
 
-inline bool is_within(std::string_view uri, std::string_view base) {
+inline bool is_within(input uri, input base) {
   bool within = false;
   const auto code = uriparse_is_within(uri.data(), uri.size(), base.data(), base.size(), &within);
   if ((code & URIPARSE_IN_BASE) != 0) detail::check(code, base, 1);
@@ -114,88 +191,108 @@ inline bool is_within(std::string_view uri, std::string_view base) {
   return within;
 }
 
-inline bool host_is_within(std::string_view text, std::string_view domain) {
+inline bool host_is_within(input text, input domain) {
   bool within = false;
   const auto code = uriparse_host_is_within(text.data(), text.size(), domain.data(), domain.size(), &within);
-  if ((code & URIPARSE_IN_BASE) != 0) {
-    const auto fault = first_fault("//" + std::string(domain));
-    throw error({code & ~std::uint32_t{URIPARSE_IN_BASE}, fault && fault->place > 2 ? fault->place - 2 : 0}, 1);
-  }
+  if ((code & URIPARSE_IN_BASE) != 0) throw error(code, detail::place_in(URIPARSE_HOST, domain), 1);
   detail::check(code, text);
   return within;
 }
 
 // A sum of uriparse_host_flag.
-inline std::uint32_t host_flags(std::string_view text) { return detail::read<std::uint32_t>(uriparse_host_flags, text); }
+inline std::uint32_t host_flags(input text) { return detail::read<std::uint32_t>(uriparse_host_flags, text); }
 
-inline std::optional<std::uint32_t> default_port(std::string_view scheme) noexcept {
+inline std::optional<std::uint32_t> default_port(input scheme) noexcept {
   const auto port = uriparse_default_port(scheme.data(), scheme.size());
   return port ? std::optional(port) : std::nullopt;
 }
 
-// What becomes of a component: it is kept, unless it is set to a string, or removed by std::nullopt.
+// What becomes of a component: it is kept, unless it is set to a string, or removed by std::nullopt. It owns its string. A component of
+// another reference sets it, or removes it if that is absent.
 class change {
-  std::optional<view> wanted_;
+  std::uint8_t action_ = URIPARSE_KEEP;
+  std::string text_;
+
+  void set(std::string_view text) {
+    action_ = URIPARSE_SET;
+    text_ = text;
+  }
 
 public:
   change() noexcept = default;
-  change(std::nullopt_t) noexcept : wanted_(std::in_place) {}
-  template <class Text, class = std::enable_if_t<std::is_convertible_v<const Text &, std::string_view>>>
-  change(const Text &text) noexcept : wanted_(std::in_place, std::string_view(text)) {}
-  const std::optional<view> &wanted() const noexcept { return wanted_; }
+  change(std::nullptr_t) = delete;
+  template <class Text, class = std::enable_if_t<std::is_convertible_v<const Text &, view>>>
+  change(const Text &text) : action_(URIPARSE_REMOVE) {
+    if constexpr (std::is_convertible_v<const Text &, std::string_view>) set(text);
+    else if (const view value = text) set(*value);
+  }
+  std::uint8_t action() const noexcept { return action_; } // one of uriparse_action
+  const std::string &text() const noexcept { return text_; }
 };
 
-// What becomes of each component: views of strings, which must outlive them.
+// What becomes of each component.
 struct changes {
   change scheme, username, password, host, port, path, query, fragment;
 };
 
+namespace detail {
+// The error of a string that rejects changes, or of a value, which is wrong by itself or where it stands, or of them all.
+[[noreturn]] inline void reject_change(std::uint32_t code, std::string_view text, const changes &wanted) {
+  if (const auto place = place_of(text)) throw error(code, place, 0);
+  const std::pair<std::uint32_t, const change *> values[] = {
+      {URIPARSE_USERNAME, &wanted.username}, {URIPARSE_PASSWORD, &wanted.password}, {URIPARSE_HOST, &wanted.host}, {URIPARSE_PORT, &wanted.port},
+      {URIPARSE_SEGMENT, &wanted.path}, {URIPARSE_QUERY, &wanted.query}, {URIPARSE_FRAGMENT, &wanted.fragment}};
+  for (const auto &[component, one] : values)
+    if (component == uriparse_error_component(code) && code != URIPARSE_MISSING_HOST && one->action() == URIPARSE_SET)
+      throw error(code, place_in(component, one->text()), 1);
+  if (code != URIPARSE_SCHEME_BYTE && code != URIPARSE_SCHEME_LETTER) throw error(code, std::nullopt, 1);
+  const std::string_view letters = "ABCDEFGHIJKLMNOPQRSTUVWXYZabcdefghijklmnopqrstuvwxyz0123456789+-.";
+  throw error(code, code == URIPARSE_SCHEME_LETTER ? 0 : wanted.scheme.text().find_first_not_of(letters), 1);
+}
+} // namespace detail
+
 // The text with these components changed. What isn't named stays, byte for byte.
-inline std::string replace(std::string_view text, const changes &wanted) {
+inline std::string replace(input text, const changes &wanted) {
   uriparse_changes fields{};
   std::string values, out;
   const auto note = [&values](auto &field, const change &one) {
-    if (!one.wanted()) return;
-    field.action = *one.wanted() ? URIPARSE_SET : URIPARSE_REMOVE;
+    field.action = one.action();
     field.begin = values.size();
-    values += one.wanted()->value_or("");
+    values += one.text();
     field.end = values.size();
   };
   note(fields.scheme, wanted.scheme), note(fields.username, wanted.username), note(fields.password, wanted.password);
   note(fields.host, wanted.host), note(fields.port, wanted.port), note(fields.path, wanted.path);
   note(fields.query, wanted.query), note(fields.fragment, wanted.fragment);
-  const auto call = [&](const void *at, std::size_t len, void *to, std::size_t room, std::size_t *needed) {
+  const auto call = [&](const char *at, std::size_t len, char *to, std::size_t room, std::size_t *needed) {
     return uriparse_change(at, len, &fields, values.data(), values.size(), to, room, needed);
   };
-  detail::check(detail::fill(out, call, text), text);
+  if (const auto code = detail::fill(out, call, text)) detail::reject_change(code, text, wanted);
   return out;
 }
 
-inline std::optional<std::string> origin(std::string_view text) {
+inline std::optional<std::string> origin(input text) {
   std::string out;
   const auto code = detail::fill(out, uriparse_origin, text);
   if (code != URIPARSE_NO_ORIGIN) detail::check(code, text);
   return code == URIPARSE_OK ? std::optional(out) : std::nullopt;
 }
 
-inline std::string encode(uriparse_component component, std::string_view bytes) {
+inline std::string encode(uriparse_component component, input bytes) {
   std::string out;
   const auto call = [component](auto... arguments) { return uriparse_encode(component, arguments...); };
-  if (const auto code = detail::fill(out, call, bytes)) throw error({code, 0}, 0);
+  if (const auto code = detail::fill(out, call, bytes)) throw error(code, std::nullopt, 0);
   return out;
 }
 
-inline std::string decode(std::string_view text) {
+inline std::string decode(input text) {
   std::string out;
-  if (const auto code = detail::fill(out, uriparse_decode, text)) {
-    const std::string query = "?" + std::string(text.substr(0, text.find('#')));
-    throw error({code, first_fault(query).value_or(fault{code, query.size()}).place - 1}, 0);
-  }
+  if (const auto code = detail::fill(out, uriparse_decode, text)) throw error(code, detail::place_in(URIPARSE_QUERY, text), 0);
   return out;
 }
 
 // The decoded value of the first pair of the query with this name: empty without a '='.
-inline std::optional<std::string> pair(std::string_view uri, std::string_view name) {
+inline std::optional<std::string> pair(input uri, input name) {
   const auto query = reference(uri).query();
   uriparse_pair found;
   if (!query || !uriparse_find_pair(query->data(), query->size(), name.data(), name.size(), &found)) return std::nullopt;
@@ -216,26 +313,32 @@ template <class Call> std::string with(Call call, std::string_view uri, std::str
 } // namespace detail
 
 // The URI with one pair of this name, in place of the first one, or with a pair after all others; std::nullopt sets one without '='.
-inline std::string with_pair(std::string_view uri, std::string_view name, view value) {
+inline std::string with_pair(input uri, input name, view value) {
   return detail::with([](auto... arguments) { return uriparse_set_pair(arguments...); }, uri, name, value);
 }
-inline std::string with_appended_pair(std::string_view uri, std::string_view name, view value) {
+inline std::string with_appended_pair(input uri, input name, view value) {
   return detail::with([](auto... arguments) { return uriparse_append_pair(arguments...); }, uri, name, value);
 }
+template <class Text, class = detail::if_null<Text>> std::string with_pair(input, input, Text) = delete;
+template <class Text, class = detail::if_null<Text>> std::string with_appended_pair(input, input, Text) = delete;
 
 // The URI without the pairs of these names, which are written like a query: "utm_*&gclid".
-inline std::string without_pairs(std::string_view uri, std::string_view names) {
+inline std::string without_pairs(input uri, input names) {
   const auto query = reference(uri).query();
-  if (!query) return std::string(uri);
-  std::string out(query->size() + 1, '\0');
+  const auto from = query.value_or("");
+  std::string out(from.size() + 1, '\0');
   std::size_t needed = 0;
-  const auto code = uriparse_drop_pairs(query->data(), query->size(), names.data(), names.size(), out.data(), out.size(), &needed);
-  if (code == URIPARSE_BAD_NAMES) throw error({code, 0}, 1);
+  const auto code = uriparse_drop_pairs(from.data(), from.size(), names.data(), names.size(), out.data(), out.size(), &needed);
+  if (code == URIPARSE_BAD_NAMES) throw error(code, detail::place_in(URIPARSE_QUERY, names), 1);
+  if (!query) return std::string(uri);
   out.resize(needed);
   changes wanted;
   wanted.query = code == URIPARSE_OK ? change(out) : change(std::nullopt);
   return replace(uri, wanted);
 }
+
+// The URI without the pairs of this name, which is data: a '*' is one of the name.
+inline std::string without_pair(input uri, input name) { return without_pairs(uri, encode(URIPARSE_PAIR, name)); }
 
 // The pairs of a query, name and value, for a range-based `for`. An absent query has none.
 class pairs {
@@ -245,7 +348,7 @@ class pairs {
 
 public:
   explicit pairs(view query) noexcept : query_(query.value_or("")) { if (query) ++*this; }
-  template <class Text, class = detail::if_temporary<Text>> explicit pairs(Text &&) = delete;
+  template <class Text, class = detail::if_dangling<Text>> explicit pairs(Text &&) = delete;
   pairs begin() const noexcept { return *this; }
   std::nullopt_t end() const noexcept { return std::nullopt; }
   bool operator!=(std::nullopt_t) const noexcept { return is_found_; }
@@ -255,5 +358,9 @@ public:
   }
 };
 } // namespace uriparse
+
+template <> struct std::hash<uriparse::reference> {
+  std::size_t operator()(const uriparse::reference &reference) const { return static_cast<std::size_t>(uriparse::hash(reference.text())); }
+};
 
 #endif

@@ -12,11 +12,11 @@ import subprocess
 import sys
 import threading
 import time
-from typing import Any, Callable, List, Optional, Tuple
+from typing import Any, Callable, Dict, List, Optional, Tuple
 from urllib.parse import quote
 
 TOP = os.path.dirname(os.path.dirname(os.path.abspath(__file__)))
-sys.path[:0] = [os.path.join(TOP, "c"), os.path.join(TOP, "sqlite")]
+sys.path[:0] = [os.path.join(TOP, "python"), os.path.join(TOP, "sqlite")]
 
 import fuzz  # noqa: E402
 import rows  # noqa: E402
@@ -87,14 +87,18 @@ def answer_of(call: Callable[..., Any], *texts: bytes) -> Any:
         return None
 
 
-def decoded(database: str, text: bytes) -> Optional[bytes]:
-    """What the text of a component stands for, in the database's encoding, if that is a text there."""
-    found = rows.decoded(text)
+def in_database(database: str, found: Optional[bytes]) -> Optional[bytes]:
+    """UTF-8 in the database's encoding, if it is a text there."""
     try:
         return None if found is None or b"\0" in found else found if database == "ascii" else found.decode().encode(
             CODECS.get(database, "utf-8"))
     except UnicodeError:
         return None
+
+
+def decoded(database: str, text: bytes) -> Optional[bytes]:
+    """What the text of a component stands for, in the database's encoding, if that is a text there."""
+    return in_database(database, rows.decoded(text))
 
 
 def load(database: str, texts: List[bytes]) -> None:
@@ -123,7 +127,15 @@ def test_rows(database: str) -> str:
         ("uri_replace('HTTP://u:p@h:8080/%7Ea?q#f', 'host', 'example.org')", "HTTP://u:p@example.org:8080/%7Ea?q#f"),
         ("uri_replace('HTTP://u:p@h/a', 'username', NULL)", "HTTP://h/a"), ("uri_replace('//h', 'port', '80')", "//h:80"),
         ("uri_replace('a', 'port', '80')", None), ("uri_replace(NULL::text, 'port', '80')", None), ("uri_replace('a', NULL, '80')", None),
-        ("uri_replace(uri 's:a', 'path', %s)" % quoted("b" * 5000), "s:" + "b" * 5000), ("uri_replace(uri 's:a:b', 'scheme', NULL)", None),
+        ("uri_replace(uri 's:a', 'path', %s)" % quoted("b" * 5000), "s:" + "b" * 5000), ("uri_replace('s:a:b', 'scheme', NULL)", None),
+        ("uri_replace(NULL::uri, 'port', '80')", None), ("uri_replace(uri 'a', NULL, '80')", None),
+        ("uri_without_params('http://h/?a', VARIADIC '{}')", "http://h/?a"), ("uri_without_params('a b', VARIADIC '{}')", None),
+        ("uri_without_params(uri '?a', VARIADIC '{}'::text[])", "?a"), ("uri_without_params('?a', VARIADIC NULL::text[])", None),
+        ("pg_typeof(uri_without_params(uri '?a', 'a'))", "uri"), ("uri_without_params(uri '?a&b&c', 'a', 'c')", "?b"),
+        ("uri_without_param(uri '?a*&ab', 'a*')", "?ab"), ("pg_typeof(uri_without_param(uri '?a', 'a'))", "uri"),
+        ("uri_without_param('?a', NULL)", None), ("uri_with_appended_param(uri '?a=1&', 'a', '2')", "?a=1&a=2"),
+        ("pg_typeof(uri_with_appended_param(uri '?a', 'a', NULL))", "uri"), ("uri_with_appended_param('?a', NULL, 'b')", None),
+        ("uri_with_appended_param(NULL::text, 'a', 'b')", None), ("uri_is_uri(uri 's:a')", "t"), ("uri_is_uri(NULL::text)", None),
         ("uri_is_within('HTTP://H:80/x/../a/b', 'http://h/a/')", "t"), ("uri_is_within(uri 'http://h/appX', 'http://h/app/')", "f"),
         ("uri_is_within('http://h/app/%2e%2e/admin', uri 'http://h/app/')", "f"), ("uri_is_within(uri 's:/a', uri 's:/')", "t"),
         ("uri_is_within('/a', 's:/')", None), ("uri_is_within('s:/a', NULL)", None),
@@ -149,6 +161,112 @@ def test_rows(database: str) -> str:
         assert row == [answer], (expression, row, answer)
     assert len(answers) == len(wanted) > 310
     return "rows: %d" % len(wanted)
+
+
+def spelled(value: Optional[bytes]) -> str:
+    """A literal for an argument: of text, or of bytea if it isn't UTF-8."""
+    try:
+        return "NULL" if value is None else quoted(value.decode())
+    except UnicodeDecodeError:
+        return "'\\x%s'::bytea" % value.hex() if value else ""
+
+
+def expression_of(row: rows.Meaning, kind: str = "") -> str:
+    """The call of a row of rows.tsv. `kind` is the type of its first argument, if that isn't text."""
+    if row.call == "pairs":
+        return ("(SELECT coalesce(string_agg(concat('<', name, '=' || value, '>'), '' ORDER BY at), '') "
+                "FROM uri_pairs(%s) WITH ORDINALITY AS p (name, value, at))" % spelled(row.values[0]))
+    return "%s(%s%s)" % (rows.SQL_CALLS[row.call], kind, ", ".join(map(spelled, row.values)))
+
+
+def test_meanings() -> str:
+    """The rows of rows.tsv. SQL returns NULL for an error, but `uri_check`, and a change of a `uri`, raise that of a reference, whose place
+    `uri_fault` returns, and names that are no query raise theirs. Bytes that are no text are NULL too."""
+    found, texts = rows.meanings(), rows.error_texts()
+    wanted: List[Tuple[str, Optional[str]]] = []
+    raised: List[Tuple[str, str]] = []
+    for row in found:
+        expression, answer = expression_of(row), row.answer
+        if row.error is None:
+            known = in_database("utf8", answer)
+            if row.call in rows.BOOLEAN_CALLS:
+                known = {b"true": b"t", b"false": b"f"}[known or b""]
+            wanted.append((expression, known if known is None else known.decode("latin-1")))
+            continue
+        code, _, wrong, place = row.error
+        syntax = "ERROR:  22P02: invalid input syntax for type uri: " + texts[code]
+        if code == "BAD_NAMES":
+            raised.append((expression, "ERROR:  22023: " + texts[code]))
+        elif row.call == "check":
+            wanted.append((expression, "f"))
+            raised.append((expression.replace("uri_valid", "uri_check"), "%s / DETAIL:  First wrong byte: %s." % (syntax, place)))
+            raised.append(("uri " + spelled(row.values[0]), "%s / DETAIL:  First wrong byte: %s." % (syntax, place)))
+        else:
+            wanted.append((expression, "f" if row.call == "is_uri" else None))
+        if row.call == "replace" and wrong != 1:
+            raised.append((expression_of(row, "uri "), syntax))
+        if wrong == 1 and place is not None and row.call != "decode":
+            wanted.append(("uri_fault(%s)" % spelled(row.values[0]), str(place)))
+    answers = psql("utf8", *("SELECT " + expression for expression, _ in wanted))[0]
+    for (expression, answer), line in zip(wanted, answers):
+        assert line == [answer], (expression, line, answer)
+    assert len(answers) == len(wanted)
+    for expression, error in raised:
+        assert error_of("utf8", "SELECT " + expression) == error, (expression, error)
+    return "rows.tsv: %d, with %d answers and %d errors" % (len(found), len(wanted), len(raised))
+
+
+def test_changed_pairs(texts: List[bytes]) -> str:
+    """Pairs that are set, appended and left out of random references, and checks of two, beside lists and the package."""
+    draw = random.Random(7)
+    lines: List[Tuple[str, List[Optional[bytes]]]] = []
+    for text in texts:
+        if uriparse.first_fault(text):
+            continue
+        for call, values, answer in rows.changed_pairs(draw, text):
+            if all(value is None or in_database("utf8", value) is not None for value in values):
+                lines.append((call, [*values, *[None] * (3 - len(values)), answer]))
+        base = text.partition(b"#")[0].partition(b"?")[0]
+        other, domain = base + draw.choice(fuzz.BELOW), draw.choice(fuzz.HOSTS)
+        for call, left, right, found in (
+                ("uri_is_within", other, base, answer_of(uriparse.is_within, other, base)),
+                ("uri_host_is_within", text, domain, answer_of(uriparse.host_is_within, text, domain)),
+                ("uri_compare", text, base, answer_of(uriparse.compare, text, base)),
+                ("uri_host_flags", text, None, answer_of(uriparse.host_flags, text)), ("uri_is_uri", text, None, uriparse.is_uri(text))):
+            shown_answer = {True: b"true", False: b"false", None: None}[found] if isinstance(found, bool) or found is None else b"%d" % found
+            lines.append((call, [left, right, None, shown_answer]))
+    data = "".join("%d\t%s\t%s\n" % (at, call, "\t".join(
+        "\\N" if value is None else value.hex() for value in values)) for at, (call, values) in enumerate(lines))
+    psql("utf8", "CREATE TABLE hexed (at int, call text, a text, b text, c text, answer text)", "COPY hexed FROM STDIN", data=data.encode())
+    columns = ", ".join("convert_from(decode(%s, 'hex'), 'UTF8') AS %s" % (name, name) for name in ("a", "b", "c", "answer"))
+    calls = " ".join("WHEN '%s' THEN (%s)::text" % (call, expression) for call, expression in (
+        ("uri_with_param", "uri_with_param(a, b, c)"), ("uri_with_appended_param", "uri_with_appended_param(a, b, c)"),
+        ("uri_without_param", "uri_without_param(a, b)"), ("uri_without_params", "uri_without_params(a, b, c)"),
+        ("uri_is_within", "uri_is_within(a, b)"), ("uri_host_is_within", "uri_host_is_within(a, b)"), ("uri_compare", "uri_compare(a, b)"),
+        ("uri_host_flags", "uri_host_flags(a)"), ("uri_is_uri", "uri_is_uri(a)")))
+    psql("utf8", "CREATE TABLE called AS SELECT at, call, a, b, c, answer, CASE call %s END AS found FROM (SELECT at, call, %s FROM hexed) h" % (
+        calls, columns))
+    wrong = psql("utf8", "SELECT * FROM called WHERE found IS DISTINCT FROM answer ORDER BY at LIMIT 3", "SELECT count(found) FROM called")[0]
+    assert len(wrong) == 1 and int(wrong[0][0] or 0) > len(lines) * 2 // 3, wrong
+    return "changed pairs and checks of two: %d" % len(lines)
+
+
+def test_steps() -> str:
+    """Many pairs and names are taken by steps, which change nothing, and between which a statement ends at its time."""
+    draw = random.Random(8)
+    for size, names_size in ((4096, 4096), (20_000, 9000), (1, 9000), (9000, 1)):
+        pieces = ["%s=%d" % (draw.choice("abcdefgh") * draw.choice((0, 1, 3)), at) for at in range(size // 3 + 1)]
+        names = [draw.choice("abcdx") * draw.choice((1, 3, 5)) for _ in range(names_size // 3 + 1)]
+        left = [piece for piece in pieces if piece.partition("=")[0] not in set(names)]
+        wanted = "s:?" + "&".join(left) + "#f" if left else "s:#f"
+        for spelled_names in ("'%s'" % "&".join(names), "VARIADIC '{%s}'" % ",".join(names)):
+            assert one("utf8", "uri_without_params('s:?%s#f', %s)" % ("&".join(pieces), spelled_names)) == wanted, (size, names_size)
+    begin = time.monotonic()
+    errors = psql("utf8", "SET statement_timeout = '1s'", "SELECT uri_without_params('?' || repeat('a&', 500000), repeat('b&', 100000))",
+                  "RESET statement_timeout", "SELECT uri_without_params('?a&b', 'a')", check=False)
+    taken = time.monotonic() - begin
+    assert "57014" in errors[1] and errors[0] == [["?b"]] and taken < 2, (errors, taken)
+    return "pairs and names by steps; a statement of 500,000 pairs and 100,000 names ends at its time"
 
 
 def test_random(database: str, texts: List[bytes]) -> str:
@@ -223,17 +341,22 @@ def query_of(text: bytes) -> Optional[bytes]:
 
 def test_pairs(database: str, texts: List[bytes]) -> str:
     """The pairs of a reference's query beside the package's, decoded. Names and values may have tabs: their sums are compared."""
-    listed = "(SELECT string_agg(concat(name, '=', coalesce(value, 'NULL')), ' ') FROM uri_pairs(%s))"
-    for text, answer in (("'?a=1&b=%26&c'", "a=1 b=& c=NULL"), ("'http://h/?'", "=NULL"), ("'?%00=%ff&%2500=+'", "%00=%ff %00=+"),
-                         ("'a'", None), ("'?a b'", None), ("NULL::text", None), ("uri '?=a=b'", "=a=b")):
-        assert one(database, listed % text) == answer, text
-    assert one(database, listed % "'?%C3%BC'") == ("\xc3\xbc=NULL" if database == "utf8" else "%C3%BC=NULL")
+    for text, answer in (("'?a=1&b=%26&c'", [["a", "1"], ["b", "&"], ["c", None]]), ("'http://h/?'", [["", None]]), ("'?%00=%00&%2500=+'", [[
+            None, None], ["%00", "+"]]), ("'a'", []), ("'?a b'", []), ("NULL::text", []), ("uri '?=a=b'", [["", "a=b"]])):
+        assert psql(database, "SELECT * FROM uri_pairs(%s)" % text)[0] == answer, text
+    # What isn't ASCII is in the database's encoding, and NULL if that has no such text: never what another value is.
+    for encoded in ("%C3%BC", "%E6%97%A5", "%F0%9F%98%80", "%FF"):
+        found = decoded(database, encoded.encode())
+        known = None if found is None else found.decode("latin-1")
+        assert psql(database, "SELECT * FROM uri_pairs('?%s=%s')" % (encoded, encoded))[0] == [[known, known]], (database, encoded)
+        assert one(database, "uri_param('?a=%s', 'a')" % encoded) == known, (database, encoded)
+    assert one(database, "uri_param('?a=%25FF', 'a')") == "%FF"
     assert one(database, "sum(length(value)) FROM uri_pairs('?' || (SELECT string_agg('n=' || repeat('v', n), '&') FROM "
                "generate_series(0, 1999) n))") == "1999000"
     found = psql(database, "SELECT at, md5(name), md5(value) FROM random, uri_pairs(x) WITH ORDINALITY AS p (name, value, place) "
                  "ORDER BY at, place")[0]
-    wanted = [[str(at), *(piece if piece is None else hashlib.md5(piece.encode()).hexdigest() for piece in pair)]
-              for at, text in enumerate(texts) for pair in rows.decoded_pairs(query_of(text), database != "utf8")]
+    wanted = [[str(at), *(text if text is None else hashlib.md5(text).hexdigest() for text in (in_database(database, piece) for piece in pair))]
+              for at, text in enumerate(texts) for pair in rows.decoded_pairs(query_of(text))]
     assert found == wanted, database
     return "pairs of queries in %s: %d" % (database, len(found))
 
@@ -242,6 +365,9 @@ def test_type() -> str:
     assert error_of("utf8", "SELECT uri 'http://h/a b'") == (
         "ERROR:  22P02: invalid input syntax for type uri: invalid byte in the path / DETAIL:  First wrong byte: 10.")
     assert error_of("utf8", "SELECT uri_check('%')").endswith("DETAIL:  First wrong byte: 0.")
+    if int(one("utf8", "current_setting('server_version_num')") or 0) >= 160000:
+        assert psql("utf8", "SELECT pg_input_is_valid('a b', 'uri'), pg_input_is_valid('a', 'uri'), (pg_input_error_info('a b', 'uri')).detail")[0] == [
+            ["f", "t", "First wrong byte: 1."]]
     assert error_of("utf8", "SELECT ('http://h/' || chr(252))::uri").endswith("First wrong byte: 9.")
     psql("utf8", "CREATE TABLE ids (url uri PRIMARY KEY, note text)", "INSERT INTO ids VALUES ('HTTP://h/%7e', 'kept')")
     assert error_of("utf8", "INSERT INTO ids VALUES ('http://H:/~')").startswith("ERROR:  23505")
@@ -257,6 +383,12 @@ def test_type() -> str:
     assert psql("utf8", "SELECT " + nulls)[0] == [[None] * (len(ONE) + 1)]
     psql("utf8", "INSERT INTO ids VALUES ('http://h/varying'::varchar(20))", "DELETE FROM ids WHERE url = 'http://h/varying'::varchar")
     assert error_of("utf8", "INSERT INTO ids VALUES ('a b'::varchar)").startswith("ERROR:  22P02")
+    # A change that is rejected ends the UPDATE, and the value stays. Calls of text give NULL.
+    psql("utf8", "CREATE TABLE changed (url uri, t text)", "INSERT INTO changed VALUES ('http://h/', 'http://h/')")
+    assert error_of("utf8", "UPDATE changed SET url = uri_replace(url, 'port', '70000')") == (
+        "ERROR:  22P02: invalid input syntax for type uri: the port is above 65535")
+    psql("utf8", "UPDATE changed SET url = uri_without_params(url, VARIADIC '{}'), t = uri_replace(t, 'port', '70000')")
+    assert psql("utf8", "SELECT url, t FROM changed")[0] == [["http://h/", None]]
     # Binary copies come in again, and are checked.
     copied = run("utf8", "COPY ids TO STDOUT (FORMAT binary)")
     psql("utf8", "CREATE TABLE again (LIKE ids)", "COPY again FROM STDIN (FORMAT binary)", data=copied)
@@ -326,32 +458,49 @@ def test_joins() -> str:
     return "indexes, joins, min and max of texts and values"
 
 
-def test_update() -> str:
-    """A database with version 1.0 gets what a new one has. A role that isn't a superuser may do both."""
-    members = ("SELECT pg_describe_object(classid, objid, 0) FROM pg_depend WHERE refclassid = 'pg_extension'::regclass AND deptype = 'e' "
-               "AND refobjid = (SELECT oid FROM pg_extension WHERE extname = 'uri') ORDER BY 1")
-    psql("postgres", "CREATE ROLE plain", "CREATE DATABASE old OWNER plain TEMPLATE template0 ENCODING 'UTF8'",
-         "CREATE DATABASE fresh OWNER plain TEMPLATE template0 ENCODING 'UTF8'")
-    psql("fresh", "SET ROLE plain", "CREATE EXTENSION uri")
-    for is_built_later in (False, True):
-        psql("old", "SET ROLE plain", "CREATE EXTENSION uri VERSION '1.0'", "CREATE TABLE ids (url uri PRIMARY KEY)",
-             "INSERT INTO ids VALUES ('HTTP://h/%7e'), ('s:')")
-        assert error_of("old", "SELECT uri_origin('http://h')").startswith("ERROR:  42883")
-        if is_built_later:
-            psql("old", *("CREATE FUNCTION uri_origin(%s) RETURNS text AS '$libdir/uri' LANGUAGE C IMMUTABLE STRICT PARALLEL SAFE" % kind
-                          for kind in ("text", "uri")), *("ALTER EXTENSION uri ADD FUNCTION uri_origin(%s)" % kind for kind in ("text", "uri")))
-        psql("old", "SET ROLE plain", "ALTER EXTENSION uri UPDATE")
-        assert psql("old", members)[0] == psql("fresh", members)[0] and len(psql("old", members)[0]) > 80
-        assert psql("old", "SELECT extversion FROM pg_extension WHERE extname = 'uri'", "SELECT url FROM ids WHERE url = text 'http://H/~'",
-                    "SELECT uri_origin(url) FROM ids WHERE uri_host_kind(url) = 'name'", "SELECT max(url) FROM ids")[0] == [
-                        ["1.1"], ["HTTP://h/%7e"], ["http://h"], ["s:"]]
-        psql("old", "SET ROLE plain", "DROP EXTENSION uri CASCADE", "DROP TABLE ids")
-    # Each function of the extension but the two aggregates, the two that remove a component by NULL, and the two that set a pair without
-    # a value by it.
-    assert one("fresh", "count(*) FROM pg_proc p JOIN pg_depend d ON d.classid = 'pg_proc'::regclass AND d.objid = p.oid AND d.deptype = 'e' "
-               "JOIN pg_extension e ON e.oid = d.refobjid AND e.extname = 'uri' WHERE NOT (p.proisstrict AND p.provolatile = 'i' AND "
-               "p.proparallel = 's')") == "6"
-    return "an update from 1.0, by a role that is no superuser"
+def test_extension() -> str:
+    """A role that isn't a superuser may create the extension, beside that of version 0.3.0 or another of the name `uri`."""
+    psql("postgres", "CREATE ROLE plain", "CREATE DATABASE fresh OWNER plain TEMPLATE template0 ENCODING 'UTF8'")
+    psql("fresh", "SET ROLE plain", "CREATE EXTENSION uriparse")
+    # Each function but the two aggregates, the two that remove a component by NULL, and the four that write a pair without a value by it.
+    functions = ("FROM pg_proc p JOIN pg_depend d ON d.classid = 'pg_proc'::regclass AND d.objid = p.oid AND d.deptype = 'e' "
+                 "JOIN pg_extension e ON e.oid = d.refobjid AND e.extname = 'uriparse' ")
+    assert one("fresh", "count(*) %s WHERE NOT (p.proisstrict AND p.provolatile = 'i' AND p.proparallel = 's')" % functions) == "8"
+    # What reads a text costs more than a comparison of numbers: the planner asks the number first.
+    assert one("fresh", "count(*) %s WHERE p.procost < 10 AND p.prolang = (SELECT oid FROM pg_language WHERE lanname = 'c')" % functions) == "0"
+    psql("fresh", "CREATE TABLE numbers (t text, n int)")
+    plan = str(psql("fresh", "EXPLAIN SELECT * FROM numbers WHERE uri_host(t) = 'h' AND n = 1")[0])
+    assert "((n = 1) AND (uri_host(t) = 'h'::text))" in plan, plan
+    return "the extension by a role that is no superuser"
+
+
+def test_move() -> str:
+    """A database of version 0.3.0, whose type had another order, moves by the statements of README.md. Until then its module is its own."""
+    with open(os.path.join(os.path.dirname(os.path.abspath(__file__)), "README.md"), encoding="utf-8") as file:
+        moves = re.findall(r"^    ((?:CREATE SCHEMA|ALTER|CREATE EXTENSION|DROP).*?;)(?: +--.*)?$", file.read(), re.MULTILINE)
+    assert len(moves) == 5, moves
+    psql("postgres", "CREATE DATABASE moved TEMPLATE template0 ENCODING 'UTF8'")
+    psql("moved", "CREATE EXTENSION uri", "CREATE EXTENSION amcheck", "CREATE TABLE ids (url uri PRIMARY KEY, at int)",
+         "INSERT INTO ids SELECT ('http://h:' || n)::uri, n FROM generate_series(1, 3000) n",
+         "INSERT INTO ids SELECT ('//10.0.0.' || n)::uri, 5000 + n FROM generate_series(1, 255) n",
+         "INSERT INTO ids VALUES ('s:', 6000), ('s:?', 6001), ('//h/%7e', 6002), ('//%31.2.3.4', 6003), ('//1.2.3.4', 6004)", "CREATE INDEX by_url ON ids (url)")
+    order = "SELECT string_agg(at::text, ' ' ORDER BY url) FROM ids"
+    searched = ("SELECT count(*) FROM (SELECT url AS x FROM ids) t, LATERAL (SELECT FROM ids WHERE url = t.x) found", "SELECT bt_index_check('by_url', true)",
+                "SELECT bt_index_check('ids_pkey', true)")
+    # The new module is loaded first.
+    other = ("CREATE SCHEMA IF NOT EXISTS beside", "CREATE EXTENSION IF NOT EXISTS uriparse SCHEMA beside",
+             "SELECT beside.uri_host('//h'), beside.uri '//h:9' OPERATOR(beside.<) beside.uri '//h:10'")
+    before = psql("moved", "SET enable_seqscan = off", *other, *searched, order)[0]
+    assert before[:2] == [["h", "t"], ["3260"]], before[:2]
+    psql("moved", "DROP EXTENSION uriparse")
+    psql("moved", *moves)
+    after = psql("moved", "SET enable_seqscan = off", *searched, order)[0]
+    assert after[0] == ["3260"] and after[-1] != before[-1], (after[0], before[0])
+    plan = str(psql("moved", "SET enable_seqscan = off", "EXPLAIN SELECT FROM ids WHERE url = 'http://H:77/'")[0])
+    assert "Index" in plan and one("moved", "at FROM ids WHERE url = 'http://H:077'") == "77", plan
+    assert one("moved", "count(*) FROM pg_extension WHERE extname = 'uri'") == "0"
+    assert error_of("moved", "INSERT INTO ids VALUES ('HTTP://h:3000')").startswith("ERROR:  23505")
+    return "a database of 0.3.0 that moves: 3260 rows found by each index"
 
 
 def test_order() -> str:
@@ -429,7 +578,7 @@ def test_cancelled() -> str:
     cancelled = None
     for _ in range(100):
         time.sleep(0.1)
-        cancelled = psql("utf8", "SELECT pg_cancel_backend(pid) FROM pg_stat_activity WHERE application_name = 'victim' "
+        cancelled = psql("utf8", "SELECT pg_cancel_backend(pid) FROM pg_stat_activity WHERE application_name = 'victim' AND leader_pid IS NULL "
                          "AND query LIKE '%count(uri_normalize%' AND clock_timestamp() - query_start > interval '300 ms'")[0]
         if cancelled:
             break
@@ -442,6 +591,31 @@ def test_cancelled() -> str:
     return "a query and an index cancelled midway"
 
 
+def test_hostile(database: str) -> str:
+    """The rows of hostile input. A rejected one gives NULL."""
+    answers: Dict[str, Optional[str]] = {"yes": "t", "no": "f", "rejected": None}
+    found = rows.hostile_rows()
+    asked = [rows.HOSTILE[row.call] % (quoted(row.text), quoted(row.other))[:rows.HOSTILE[row.call].count("%s")] for row in found]
+    said = psql(database, "SELECT * FROM unnest(ARRAY[%s])" % ", ".join("(%s)::text" % one for one in asked))[0]
+    for (answer,), row in zip(said, found):
+        wanted = answers.get(row.answer, row.answer)
+        assert (answer and answer[:1]) == wanted, (answer, row)
+    assert len(said) == len(found) > 700
+    return "%d rows of hostile input" % len(found)
+
+
+def test_redirects(database: str) -> str:
+    """The view `allowed` of README.md has the targets that the rows allow."""
+    found = rows.redirects()
+    for row in found:
+        condition = " WHERE uri_is_within(target, page)" if row.call == "redirect-below" else ""
+        said, _ = psql(database, "DELETE FROM links", "INSERT INTO links VALUES (%s, %s)" % (quoted(row.other), quoted(row.text)),
+                       "SELECT count(*) FROM allowed" + condition)
+        assert said == [[str(int(row.answer == "yes"))]], (said, row)
+    assert len(found) >= 60
+    return "%d redirects" % len(found)
+
+
 def test_page() -> str:
     """The statements of README.md print what stands there."""
     psql("postgres", "CREATE DATABASE page TEMPLATE template0 ENCODING 'UTF8'")
@@ -451,7 +625,7 @@ def test_page() -> str:
         lines = ["|".join("NULL" if field is None else field for field in row).encode("latin-1").decode() for row in found]
         lines += ["error: " + text for text in re.findall("^ERROR:  [0-9A-Z]{5}: (.*)$", errors, re.MULTILINE)]
         assert lines == wanted, (statement, lines, errors, wanted)
-    return "README.md: %d statements" % len(statements)
+    return "README.md: %d statements, %s" % (len(statements), test_redirects("page"))
 
 
 def main() -> None:
@@ -461,16 +635,19 @@ def main() -> None:
          "CREATE DATABASE ascii TEMPLATE template0 ENCODING 'SQL_ASCII'", "CREATE DATABASE latin TEMPLATE template0 ENCODING 'LATIN1'",
          "CREATE DATABASE eucjp TEMPLATE template0 ENCODING 'EUC_JP'")
     for database in ("utf8", "ascii", "latin", "eucjp"):
-        psql(database, "CREATE EXTENSION uri")
+        psql(database, "CREATE EXTENSION uriparse")
     print(test_rows("utf8"))
+    print(test_hostile("utf8"))
+    print(test_meanings())
     for database, some in (("ascii", texts), ("utf8", [text.decode("utf-8", "replace").encode() for text in texts[:2000]]),
                            ("latin", texts[:2000]), ("eucjp", [text.decode("latin-1").encode("euc_jp", "ignore") for text in texts[:2000]])):
         print(test_random(database, some))
         print(test_pairs(database, some))
-    for found in (test_page(), test_encodings(), test_type(), test_overloads(), test_order(), test_joins(), test_update(), test_long(),
-                  test_cancelled()):
-        print(found)
-    psql("utf8", "DROP EXTENSION uri CASCADE")
+    print(test_changed_pairs(texts[:3000]))
+    for test in (test_steps, test_page, test_encodings, test_type, test_overloads, test_order, test_joins, test_extension, test_move, test_long,
+                 test_cancelled):
+        print(test())
+    psql("utf8", "DROP EXTENSION uriparse CASCADE")
 
 
 main()

@@ -7,6 +7,13 @@ use std::process::{exit, Command};
 
 fn main() {
     println!("cargo:rerun-if-env-changed=URIPARSE_LIB_DIR");
+    let target = |name: &str| env::var(format!("CARGO_CFG_TARGET_{name}")).unwrap_or_default();
+    let (os, arch) = (target("OS"), target("ARCH"));
+    if os != "linux" || !["x86_64", "aarch64"].contains(&arch.as_str()) {
+        stop(&format!(
+            "the library for C is for Linux on x86_64 or aarch64, not for {os} on {arch}"
+        ));
+    }
     let folder = match env::var_os("URIPARSE_LIB_DIR") {
         Some(folder) => PathBuf::from(folder),
         None => built(),
@@ -40,6 +47,16 @@ fn built() -> PathBuf {
     if Path::new("../c/Makefile").exists() && made.map_or(false, |status| status.success()) {
         return out;
     }
-    eprintln!("uriparse-rattle: the library for C isn't built: run `rt lib` in crates/uriparse_c, or set URIPARSE_LIB_DIR to the folder of liburiparse.a");
+    let is_split = out.to_string_lossy().contains(' ');
+    let hint = if is_split {
+        "; `make` takes no folder with a space, set CARGO_TARGET_DIR"
+    } else {
+        ""
+    };
+    stop(&format!("the library for C isn't built: run `rt lib` in crates/uriparse_c, or set URIPARSE_LIB_DIR to the folder of liburiparse.a{hint}"))
+}
+
+fn stop(why: &str) -> ! {
+    eprintln!("uriparse-rattle: {why}");
     exit(1)
 }

@@ -2,11 +2,12 @@
 from __future__ import annotations
 
 import os
+import random
 import re
-from typing import Dict, Iterator, List, Optional, Tuple
-from urllib.parse import unquote_to_bytes
+from typing import Dict, Iterator, List, NamedTuple, Optional, Tuple
+from urllib.parse import quote, unquote_to_bytes
 
-from fuzz import APPENDIX_B
+from fuzz import APPENDIX_B, model
 
 TOP = os.path.dirname(os.path.dirname(os.path.dirname(os.path.abspath(__file__))))
 RFC_BASE = "http://a/b/c/d;p?q"
@@ -63,6 +64,20 @@ def program_rows() -> List[Tuple[str, str, bool]]:
     return [(left, right, answer == "equal") for left, right, answer in rows]
 
 
+# The function that answers the rows of tests/hostile.tsv of each call.
+HOSTILE = {"within": "uri_is_within(%s, %s)", "host-within": "uri_host_is_within(%s, %s)", "host-flags": "uri_host_flags(%s)"}
+
+
+def hostile_rows() -> List[model.Row]:
+    """The rows of tests/hostile.tsv that a function answers."""
+    return [row for row in model.read_rows() if row.call in HOSTILE]
+
+
+def redirects() -> List[model.Row]:
+    """The rows of the redirect check, which is that of the pages' view `allowed`."""
+    return [row for row in model.read_rows() if row.call.startswith("redirect")]
+
+
 def page_statements(page: str) -> List[Tuple[str, List[str]]]:
     """The statements in the blocks of SQL on a page, each with the lines that its comments say it prints: `-- a|b` for a row, or
     `-- error: ..`, after the statement or in the lines below it."""
@@ -93,19 +108,10 @@ def close_texts() -> List[str]:
     return texts
 
 
-def _read(piece: bytes, in_ascii: bool) -> str:
-    """What a name or a value stands for, or itself if that is no text."""
-    try:
-        text = unquote_to_bytes(piece).decode("ascii" if in_ascii else "utf-8")
-    except UnicodeDecodeError:
-        return piece.decode()
-    return piece.decode() if "\0" in text else text
-
-
-def decoded_pairs(query: Optional[bytes], in_ascii: bool = False) -> List[Tuple[str, Optional[str]]]:
-    """The rows of `uri_pairs` for a reference with this query, if it has one."""
+def decoded_pairs(query: Optional[bytes]) -> List[Tuple[bytes, Optional[bytes]]]:
+    """The bytes of the names and values of the pairs of this query, if there is one."""
     pieces = [piece.partition(b"=") for piece in query.split(b"&")] if query is not None else []
-    return [(_read(name, in_ascii), _read(value, in_ascii) if sign else None) for name, sign, value in pieces]
+    return [(unquote_to_bytes(name), unquote_to_bytes(value) if sign else None) for name, sign, value in pieces]
 
 
 # What a query has (RFC 3986, section 3.4), and an IPv4 address (section 3.2.2).
@@ -130,3 +136,78 @@ def authority_parts(text: bytes) -> Tuple[Optional[bytes], Optional[bytes], Opti
     is_ipv4 = _IPV4.fullmatch(host.partition(b":")[0])
     kind = "ipvfuture" if host[:2] in (b"[v", b"[V") else "ipv6" if host[:1] == b"[" else "ipv4" if is_ipv4 else "name"
     return username if sign else None, password if colon else None, kind
+
+
+# The function of SQL for a call of rows.tsv. It has none for a port as text, and none for a query that is no reference's.
+SQL_CALLS = {"check": "uri_valid", "is_uri": "uri_is_uri", "port_number": "uri_port", "host_kind": "uri_host_kind",
+             "host_flags": "uri_host_flags", "default_port": "uri_default_port", "origin": "uri_origin", "pairs": "uri_pairs",
+             "pair": "uri_param", "with_pair": "uri_with_param", "with_appended_pair": "uri_with_appended_param",
+             "without_pairs": "uri_without_params", "without_pair": "uri_without_param", "host_is_within": "uri_host_is_within",
+             "is_within": "uri_is_within", "resolve": "uri_resolve", "relativize": "uri_relativize", "equal": "uri_equal",
+             "compare": "uri_compare", "replace": "uri_replace", "decode": "uri_decode", "encode": "uri_encode"}
+NO_SQL_CALLS = {"port", "drop_pairs"}
+BOOLEAN_CALLS = {"check", "is_uri", "host_is_within", "is_within", "equal"}
+
+
+class Meaning(NamedTuple):
+    """A row of rows.tsv. Of an error `answer` is None, and `error` has its code and component, the number of the wrong argument and
+    the place of its first wrong byte, if there are such."""
+    call: str
+    values: List[Optional[bytes]]
+    answer: Optional[bytes]
+    error: Optional[Tuple[str, str, Optional[int], Optional[int]]]
+
+
+def _meant(field: str) -> Optional[bytes]:
+    """What an argument or an answer of rows.tsv stands for."""
+    return None if field == r"\N" else re.sub(rb"\\x([0-9A-F]{2})", lambda match: bytes.fromhex(match[1].decode()), field.encode())
+
+
+def meanings() -> List[Meaning]:
+    """The rows of rows.tsv for which SQL has a function."""
+    found = []
+    with open(os.path.join(TOP, "bindings/rows.tsv"), encoding="utf-8") as file:
+        lines = [line.rstrip("\n").split("\t") for line in file if line.strip() and not line.startswith("#")]
+    for call, *fields, answer in lines:
+        error = re.fullmatch(r"! (\w+) (\w+) (\d|-) (\d+|-)", answer)
+        values = [_meant(field) for field in fields]
+        if error:
+            numbers = [None if number == "-" else int(number) for number in (error[3], error[4])]
+            found.append(Meaning(call, values, None, (error[1], error[2], *numbers)))
+        else:
+            found.append(Meaning(call, values, _meant(answer), None))
+    assert {row.call for row in found} == {*SQL_CALLS, *NO_SQL_CALLS}
+    found = [row for row in found if row.call in SQL_CALLS]
+    assert len(found) > 250, len(found)
+    return found
+
+
+def error_texts() -> Dict[str, str]:
+    """The texts of the codes of uriparse.h, by their names in rows.tsv."""
+    with open(os.path.join(TOP, "bindings/c/uriparse.h"), encoding="utf-8") as file:
+        return dict(re.findall(r'case URIPARSE_(\w+): return "(.*)";', file.read()))
+
+
+def changed_pairs(draw: random.Random, text: bytes) -> Iterator[Tuple[str, Tuple[Optional[bytes], ...], bytes]]:
+    """Calls that change the pairs of a reference, and what they return by lists of Python's."""
+    begin, end = (match := APPENDIX_B.match(text)) and (match.end(5), match.end(6) if match[6] is not None else match.end(5))
+    query: Optional[bytes] = match[7]
+
+    def with_query(pieces: List[bytes]) -> bytes:
+        return text[:begin] + (b"?" + b"&".join(pieces) if pieces else b"") + text[end:]
+
+    pieces = (query or b"").split(b"&")
+    names = [unquote_to_bytes(piece.partition(b"=")[0]) for piece in pieces]
+    name, value = draw.choice([*names, b"a", b"*", b"a*", b"", b"a&b", b"\xc3\xa9"]), draw.choice((None, b"", b"a", b"b&=+ ", b"\xc3\xa9"))
+    piece = b"=".join(quote(part, safe="!$'(),;:@/?").encode() for part in (name, value) if part is not None)
+    kept = pieces if pieces[-1] else pieces[:-1]
+    if b"*" not in piece + name + (value or b""):
+        yield "uri_with_appended_param", (text, name, value), with_query([*kept, piece])
+        first = names.index(name) if name in names else len(pieces)
+        set_in = [piece if at == first else own for at, own in enumerate(pieces) if at == first or names[at] != name]
+        yield "uri_with_param", (text, name, value), with_query(set_in if name in names else [*kept, piece])
+    left = [own for at, own in enumerate(pieces) if names[at] != name]
+    yield "uri_without_param", (text, name), text if query is None else with_query(left)
+    pattern = quote(name[:2], safe="").encode() + b"*"
+    left = [own for at, own in enumerate(pieces) if not names[at].startswith(name[:2]) and names[at] != b"b"]
+    yield "uri_without_params", (text, pattern, b"b"), text if query is None else with_query(left)

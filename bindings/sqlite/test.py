@@ -1,6 +1,6 @@
 """The extension for SQLite beside Python's package: `test.py uri0.so [COUNT of random texts]`.
 
-It needs a python3 whose sqlite3 loads extensions, and LIBURIPARSE or a built package. The last line has the counts."""
+It needs a python3 whose sqlite3 loads extensions, and the package. The last line has the counts."""
 from __future__ import annotations
 
 import ctypes
@@ -12,11 +12,13 @@ import sqlite3
 import struct
 import sys
 import tempfile
+import threading
+import time
 from typing import Any, Callable, List, Optional, Tuple
 from urllib.parse import quote
 
 TOP = os.path.dirname(os.path.dirname(os.path.abspath(__file__)))
-sys.path.insert(0, os.path.join(TOP, "c"))
+sys.path.insert(0, os.path.join(TOP, "python"))
 
 import fuzz  # noqa: E402
 import rows  # noqa: E402
@@ -55,13 +57,17 @@ def shown_origin(text: bytes) -> Optional[str]:
     return found and found.decode()
 
 
-def decoded(text: bytes) -> Any:
-    """What the text of a component stands for: a text if that is UTF-8 without a zero byte, else bytes."""
-    found = rows.decoded(text)
+def as_value(found: Optional[bytes]) -> Any:
+    """Bytes as a text if they are UTF-8 without a zero byte."""
     try:
         return found if found is None or b"\0" in found else found.decode()
     except UnicodeDecodeError:
         return found
+
+
+def decoded(text: bytes) -> Any:
+    """What the text of a component stands for: a text if that is UTF-8 without a zero byte, else bytes."""
+    return as_value(rows.decoded(text))
 
 
 def expected(text: bytes) -> Tuple[Any, ...]:
@@ -102,7 +108,46 @@ def test_rows(db: sqlite3.Connection) -> int:
     return sum(counts)
 
 
+def meant(db: sqlite3.Connection, row: rows.Meaning) -> Any:
+    """What SQL returns for a row of rows.tsv."""
+    values = [as_value(value) for value in row.values]
+    if row.call == "pairs":
+        return b"".join(b"<%s>" % (name if value is None else name + "=" + value).encode() for name, value in db.execute(
+            "SELECT name, value FROM uri_pairs(?)", values))
+    found = one(db, "%s(%s)" % (rows.SQL_CALLS[row.call], ", ".join("?" * len(values))), *values)
+    if isinstance(found, int) and row.call in rows.BOOLEAN_CALLS:
+        return (b"false", b"true")[found]
+    return found if found is None or isinstance(found, bytes) else str(found).encode()
+
+
+def test_meanings(db: sqlite3.Connection) -> int:
+    """The rows of rows.tsv. SQL returns NULL for an error, but `uri_check` raises that of a reference, whose place `uri_fault` returns, and
+    names that are no query raise theirs."""
+    found, texts = rows.meanings(), rows.error_texts()
+    for row in found:
+        if row.error is None:
+            assert meant(db, row) == row.answer, (row, meant(db, row))
+            continue
+        code, _, wrong, place = row.error
+        if code == "BAD_NAMES":
+            assert raised(lambda: meant(db, row)) == "OperationalError: " + texts[code], row
+        elif row.call == "check":
+            assert meant(db, row) == b"false", row
+            assert raised(lambda: one(db, "uri_check(?)", as_value(row.values[0]))).endswith("byte %s: %s" % (place, texts[code])), row
+        else:
+            assert (meant(db, row) == b"false") if row.call == "is_uri" else (meant(db, row) is None), row
+        if wrong == 1 and place is not None and row.call != "decode":
+            assert one(db, "uri_fault(?)", as_value(row.values[0])) == place, row
+    return len(found)
+
+
 def test_errors(db: sqlite3.Connection) -> None:
+    for expression in ("uri_without_params()", "(SELECT * FROM (SELECT uri_without_params()))"):
+        assert raised(lambda: one(db, expression)) == "OperationalError: wrong number of arguments to function uri_without_params()"
+    for name in ("with_param", "with_appended_param"):
+        assert one(db, "uri_%s(NULL, 'a', 'b')" % name) is None and one(db, "uri_%s('?a', NULL, 'b')" % name) is None, name
+    assert one(db, "uri_without_param(NULL, 'a')") is None and one(db, "uri_without_param('?a', NULL)") is None
+    assert one(db, "uri_without_params(NULL, 'a')") is None and one(db, "uri_without_params('a b')") is None
     assert one(db, "uri_check('HTTP://h/%7e')") == "HTTP://h/%7e" and one(db, "uri_check(NULL)") is None
     assert raised(lambda: one(db, "uri_check('http://h/a b')")) == (
         "OperationalError: first wrong byte 10: invalid byte in the path")
@@ -139,6 +184,10 @@ def test_changes(db: sqlite3.Connection) -> int:
             ("uri_without_params('http://h/?utm_source=x&q=1&%75tm_id=2&gclid#f', 'utm_*', 'gclid')", "http://h/?q=1#f"),
             ("uri_without_params('http://h/?utm_a#f', 'utm_*')", "http://h/#f"), ("uri_without_params('a', 'b')", "a"),
             ("uri_without_params('?a')", "?a"), ("uri_without_params('?a', 'b', NULL)", None),
+            ("uri_without_params('?a&b', 'a', x'62')", ""), ("uri_without_params(x'3f61', 'b')", "?a"),
+            ("uri_with_appended_param('?a=1&', 'a', 2)", "?a=1&a=2"), ("uri_without_param('?a*&ab', 'a*')", "?ab"),
+            ("uri_without_param('?1=a&b', 1)", "?b"), ("uri_param('?a=%FF', 'a')", b"\xff"), ("uri_param('?a=%25FF', 'a')", "%FF"),
+            ("uri_param('?a=x%00', 'a')", b"x\0"), ("uri_param('?%FF=1', x'ff')", "1"), ("uri_is_uri(x'733a')", 1), ("uri_is_uri(NULL)", None),
             ("uri_encode('pair', 'a&b=c d+')", "a%26b%3Dc%20d%2B")):
         assert one(db, expression) == expected, expression
     assert one(db, "uri_replace('HTTP://u:p@h:8080/%7Ea?q#f', 'host', 'example.org')") == "HTTP://u:p@example.org:8080/%7Ea?q#f"
@@ -157,14 +206,7 @@ def test_changes(db: sqlite3.Connection) -> int:
         assert one(db, "uri_replace(?, ?, ?)", text, name, value) == (None if found is None else found.decode()), (text, name, value)
         component = draw.choice(list(fuzz.KEPT))
         assert one(db, "uri_encode(?, ?)", component, text) == uriparse.encode(component, text).decode(), (component, text)  # type: ignore[arg-type]
-        decoded = answer_of(uriparse.decode, text)
-        wanted: Any = decoded
-        if decoded is not None and b"\0" not in decoded:
-            try:
-                wanted = decoded.decode()
-            except UnicodeDecodeError:
-                pass
-        assert one(db, "uri_decode(?)", text) == wanted, text
+        assert one(db, "uri_decode(?)", text) == as_value(answer_of(uriparse.decode, text)), text
     return count
 
 
@@ -222,6 +264,19 @@ def test_texts(db: sqlite3.Connection) -> None:
         assert raised(lambda: one(db, "uri_escape(zeroblob(20000000))")).startswith("MemoryError")
     finally:
         limit(0)
+    # While memory runs out, the pairs of a query are an error, and never none.
+    db.execute("CREATE TABLE one_text AS SELECT ? AS x", ("?" + "a" * 2_000_000,))
+    answers = set()
+    for more in range(1_000_000, 24_000_000, 500_000):
+        limit(ctypes.CDLL("libsqlite3.so.0").sqlite3_memory_used() + more)
+        try:
+            answers.add(one(db, "count(*) FROM one_text, uri_pairs(x)"))
+        except (MemoryError, sqlite3.Error):
+            answers.add(None)
+        finally:
+            limit(0)
+    assert answers == {None, 1}, answers
+    db.execute("DROP TABLE one_text")
 
 
 def query_of(text: bytes) -> Optional[bytes]:
@@ -229,22 +284,62 @@ def query_of(text: bytes) -> Optional[bytes]:
 
 
 def test_pairs(db: sqlite3.Connection) -> int:
-    """The pairs of a reference's query beside the package's, decoded."""
-    listed = "(SELECT group_concat(coalesce(name, 'NULL') || '=' || coalesce(value, 'NULL'), ' ') FROM uri_pairs(?))"
-    for text, expected in (("?a=1&b=%26&c", "a=1 b=& c=NULL"), ("http://h/?", "=NULL"), ("?=&&%3D=a=b+", "= =NULL ==a=b+"),
-                           ("?%C3%BC=%ff&%00=%2500", "\u00fc=%ff %00=%00"), ("?%ed%a0%80=%f4%90%80%80", "%ed%a0%80=%f4%90%80%80"),
-                           ("a", None), ("?a b", None), (None, None), (b"?a=1", "a=1"), (b"", None), (12, None)):
-        assert one(db, listed, text) == expected, (text, one(db, listed, text))
+    """The pairs of a reference's query, decoded."""
+    for text, expected in (("?a=1&b=%26&c", [("a", "1"), ("b", "&"), ("c", None)]), ("http://h/?", [("", None)]),
+                           ("?=&&%3D=a=b+", [("", ""), ("", None), ("=", "a=b+")]), ("?%C3%BC=%ff&%00=%2500", [("\u00fc", b"\xff"), (b"\0", "%00")]),
+                           ("?%ed%a0%80=%f4%90%80%80&%25ff=%25FF", [(b"\xed\xa0\x80", b"\xf4\x90\x80\x80"), ("%ff", "%FF")]),
+                           ("a", []), ("?a b", []), (None, []), (b"?a=1", [("a", "1")]), (b"", []), (12, [])):
+        found = db.execute("SELECT name, value FROM uri_pairs(?)", (text,)).fetchall()
+        assert found == expected, (text, found)
     assert db.execute("SELECT typeof(name), typeof(value), uri FROM uri_pairs('?a')").fetchall() == [("text", "null", "?a")]
     assert one(db, "count(*) FROM uri_pairs") == 0
     assert db.execute("SELECT name FROM uri_pairs('?b=1&a=2&b=3') WHERE value > '1' ORDER BY 1").fetchall() == [("a",), ("b",)]
     long = "?" + "&".join("n%d=%s" % (at, "v" * at) for at in range(2000))
     assert one(db, "sum(length(value)) FROM uri_pairs(?)", long) == 1999000
-    found: List[Tuple[Any, ...]] = db.execute(
+    found = db.execute(
         "SELECT random.rowid - 1, name, value FROM random, uri_pairs(x) ORDER BY random.rowid, uri_pairs.rowid").fetchall()
     texts = [text for text, in db.execute("SELECT x FROM random ORDER BY rowid")]
-    assert found == [(at, *pair) for at, text in enumerate(texts) for pair in rows.decoded_pairs(query_of(text))]
+    assert found == [(at, as_value(name), as_value(value)) for at, text in enumerate(texts) for name, value in rows.decoded_pairs(query_of(text))]
     return len(found)
+
+
+def test_changed_pairs(db: sqlite3.Connection) -> int:
+    """Pairs that are set, appended and left out of random references, and checks of two, beside lists and the package."""
+    draw, count = random.Random(7), 0
+    while count < COUNT // 10:
+        text = fuzz.some_text(draw)
+        if uriparse.first_fault(text):
+            continue
+        for call, values, wanted in rows.changed_pairs(draw, text):
+            assert one(db, "%s(%s)" % (call, ", ".join("?" * len(values))), *values) == wanted.decode(), (call, values, wanted)
+        base = text.partition(b"#")[0].partition(b"?")[0]
+        other, domain = base + draw.choice(fuzz.BELOW), draw.choice(fuzz.HOSTS)
+        assert one(db, "uri_is_within(?, ?)", other, base) == answer_of(uriparse.is_within, other, base), (other, base)
+        assert one(db, "uri_host_is_within(?, ?)", text, domain) == answer_of(uriparse.host_is_within, text, domain), (text, domain)
+        assert one(db, "uri_host_flags(?)", b"//" + domain) == answer_of(uriparse.host_flags, b"//" + domain), domain
+        assert one(db, "uri_is_uri(?)", text) == uriparse.is_uri(text), text
+        count += 1
+    return count
+
+
+def test_steps(db: sqlite3.Connection) -> None:
+    """Many pairs and names are taken by steps, which change nothing, and between which an interrupt ends the statement."""
+    draw = random.Random(8)
+    for size, names_size in ((4095, 1), (4096, 4096), (5000, 5000), (20_000, 9000), (1, 9000), (9000, 1)):
+        pieces = ["%s=%d" % (draw.choice("abcdefgh") * draw.choice((0, 1, 3)), at) for at in range(size // 3 + 1)]
+        names = [draw.choice("abcdx") * draw.choice((1, 3, 5)) for _ in range(names_size // 3 + 1)]
+        dropped = set(names)
+        left = [piece for piece in pieces if piece.partition("=")[0] not in dropped]
+        wanted = "s:?" + "&".join(left) + "#f" if left else "s:#f"
+        assert one(db, "uri_without_params(?, ?)", "s:?" + "&".join(pieces) + "#f", "&".join(names)) == wanted, (size, names_size)
+        assert one(db, "uri_without_params(?, ?, ?)", "s:?" + "&".join(pieces) + "#f", "&".join(names), "*") == "s:#f"
+        assert "no query" in raised(lambda: one(db, "uri_without_params(?, ?)", "s:?" + "&".join(pieces), "*&" + "&".join(names) + "&a b"))
+    timer = threading.Timer(0.3, db.interrupt)
+    begin = time.monotonic()
+    timer.start()
+    assert raised(lambda: one(db, "uri_without_params(?, ?)", "?" + "a&" * 500_000, "b&" * 100_000)) == "OperationalError: interrupted"
+    assert time.monotonic() - begin < 1.3, time.monotonic() - begin
+    assert one(db, "uri_without_params('?a&b', 'a')") == "?b"
 
 
 def test_random(db: sqlite3.Connection, encoding: str) -> int:
@@ -259,9 +354,10 @@ def test_random(db: sqlite3.Connection, encoding: str) -> int:
     for row, text in zip(db.execute("SELECT %s FROM random ORDER BY rowid" % (calls % (("text",) * len(ONE)))), texts):
         assert row == expected(text.decode("utf-8", "replace").encode()), (text, row)
     pairs = zip(texts, texts[1:])
-    two = db.execute("SELECT uri_resolve(a.x, b.x), uri_equal(a.x, b.x), uri_relativize(a.x, b.x) "
+    two = db.execute("SELECT uri_resolve(a.x, b.x), uri_equal(a.x, b.x), uri_relativize(a.x, b.x), uri_compare(a.x, b.x) "
                      "FROM random a JOIN random b ON b.rowid = a.rowid + 1 ORDER BY a.rowid")
-    for (target, is_equal, relative), (left, right) in zip(two, pairs):
+    for (target, is_equal, relative, order), (left, right) in zip(two, pairs):
+        assert order == answer_of(uriparse.compare, left, right), (left, right)
         leading = answer_of(uriparse.relativize, left, right)
         assert relative == (leading if leading is None else leading.decode()), (left, right)
         assert (target or "").encode() == (answer_of(uriparse.resolve, left, right) or b""), (left, right)
@@ -339,6 +435,30 @@ def test_indexes(db: sqlite3.Connection) -> None:
     assert valid == sorted(valid, reverse=True)
 
 
+def test_hostile(db: sqlite3.Connection) -> int:
+    """The rows of hostile input. A rejected one gives NULL."""
+    answers = {"yes": 1, "no": 0, "rejected": None}
+    found = rows.hostile_rows()
+    for row in found:
+        expression = rows.HOSTILE[row.call].replace("%s", "?")
+        answer = one(db, expression, *(row.text, row.other)[:expression.count("?")])
+        assert answer == (answers[row.answer] if row.answer in answers else int(row.answer)), (answer, row)
+    assert len(found) > 700
+    return len(found)
+
+
+def test_redirects(db: sqlite3.Connection) -> int:
+    """The view `allowed` of README.md has the targets that the rows allow."""
+    found = rows.redirects()
+    for row in found:
+        db.execute("DELETE FROM links")
+        db.execute("INSERT INTO links VALUES (?, ?)", (row.other, row.text))
+        condition = " WHERE uri_is_within(target, page)" if row.call == "redirect-below" else ""
+        assert one(db, "count(*) FROM allowed" + condition) == (row.answer == "yes"), row
+    assert len(found) >= 60
+    return len(found)
+
+
 def test_names() -> None:
     """The extension loads under any file name."""
     with tempfile.TemporaryDirectory() as folder:
@@ -359,6 +479,7 @@ def test_page() -> int:
         except sqlite3.Error as error:
             found = ["error: %s" % error]
         assert "\n".join(found) == "\n".join(wanted), (statement, found, wanted)
+    test_redirects(db)
     with open(page, encoding="utf-8") as file:
         code, = re.findall(r"^```python\n(.*?)^```$", file.read(), re.MULTILINE | re.DOTALL)
     other = sqlite3.connect(":memory:")
@@ -372,19 +493,22 @@ def main() -> None:
     for encoding in ("UTF-8", "UTF-16le", "UTF-16be"):
         db = connect(encoding)
         found: Optional[int] = None
-        found = test_rows(db)
+        found = test_rows(db) + test_hostile(db)
+        meanings = test_meanings(db)
         test_errors(db)
         test_components(db)
         changed = test_changes(db)
         test_texts(db)
         texts = test_random(db, encoding) if encoding != "UTF-16be" else 0
+        of_names = test_changed_pairs(db)
+        test_steps(db)
         pairs = test_order(db)
         of_queries = test_pairs(db) if texts else 0
         if texts:
             test_indexes(db)
         assert one(db, "encoding FROM pragma_encoding") == encoding
-        counts.append("%s: %d rows, %d changes, %d random texts, %d pairs of their queries, %d pairs in order" % (
-            encoding, found, changed, texts, of_queries, pairs))
+        counts.append("%s: %d rows, %d of rows.tsv, %d changes, %d random texts, %d with changed pairs, %d pairs of their queries, %d pairs in "
+                      "order" % (encoding, found, meanings, changed, texts, of_names, of_queries, pairs))
         db.close()
     test_names()
     counts.append("%d statements of README.md" % test_page())

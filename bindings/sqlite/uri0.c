@@ -80,6 +80,12 @@ static void valid(sqlite3_context *context, int count, sqlite3_value **values) {
     sqlite3_result_int(context, uriparse_first_fault(text.at, text.len, &place) == URIPARSE_OK);
 }
 
+static void is_uri(sqlite3_context *context, int count, sqlite3_value **values) {
+  struct text text;
+  (void)count;
+  if (read_text(context, values[0], &text)) sqlite3_result_int(context, uriparse_is_uri(text.at, text.len));
+}
+
 static void fault(sqlite3_context *context, int count, sqlite3_value **values) {
   struct text text;
   size_t place;
@@ -241,22 +247,23 @@ static void origin(sqlite3_context *context, int count, sqlite3_value **values) 
   result_written(context, count, values, write_origin);
 }
 
-/* The bytes that a component stands for: a text if they are UTF-8 without a zero byte, else a blob. */
-static void decode(sqlite3_context *context, int count, sqlite3_value **values) {
-  struct text text;
-  size_t len;
-  char *out;
-  (void)count;
-  if (!read_text(context, values[0], &text)) return;
-  out = sqlite3_malloc64(text.len + 1);
+/* The bytes that the text of a component stands for: a text if they are UTF-8 without a zero byte, else a blob. */
+static void result_decoded(sqlite3_context *context, const char *at, size_t len) {
+  char *out = sqlite3_malloc64(len + 1);
   if (!out)
     sqlite3_result_error_nomem(context);
-  else if (uriparse_decode(text.at, text.len, out, text.len, &len) != URIPARSE_OK)
+  else if (uriparse_decode(at, len, out, len, &len) != URIPARSE_OK)
     sqlite3_free(out);
   else if (pairs_are_text(out, len))
     sqlite3_result_text64(context, out, len, sqlite3_free, SQLITE_UTF8);
   else
     sqlite3_result_blob64(context, out, len, sqlite3_free);
+}
+
+static void decode(sqlite3_context *context, int count, sqlite3_value **values) {
+  struct text text;
+  (void)count;
+  if (read_text(context, values[0], &text)) result_decoded(context, text.at, text.len);
 }
 
 /* The place of a name in a list that ends with NULL. If it isn't there the function's result is an error. */
@@ -331,20 +338,10 @@ static void param(sqlite3_context *context, int count, sqlite3_value **values) {
   struct text text, query, name;
   struct uriparse_pair pair;
   bool present;
-  char *out;
-  size_t len;
   (void)count;
-  if (!read_query(context, values[0], &text, &query, &present) || !read_text(context, values[1], &name) || !present ||
-      !uriparse_find_pair(query.at, query.len, name.at, name.len, &pair))
-    return;
-  len = pair.value.end - pair.value.begin;
-  out = sqlite3_malloc64(len + 1);
-  if (!out) {
-    sqlite3_result_error_nomem(context);
-    return;
-  }
-  len = pairs_read(query.at + pair.value.begin, len, false, out);
-  sqlite3_result_text64(context, out, len, sqlite3_free, SQLITE_UTF8);
+  if (read_query(context, values[0], &text, &query, &present) && read_text(context, values[1], &name) && present &&
+      uriparse_find_pair(query.at, query.len, name.at, name.len, &pair))
+    result_decoded(context, query.at + pair.value.begin, pair.value.end - pair.value.begin);
 }
 
 /* The reference with this query, or without one. */
@@ -353,60 +350,120 @@ static void result_with_query(sqlite3_context *context, const struct text *text,
   result_of(context, texts, write_replaced);
 }
 
-/* uri_with_param(t, name, value): NULL as the value sets a pair without "=". */
-static void with_param(sqlite3_context *context, int count, sqlite3_value **values) {
+/* The reference with a pair that is set, or appended. NULL as the value stands for a pair without "=". */
+static void result_with_pair(sqlite3_context *context, sqlite3_value **values, bool appends) {
   struct text text, query, name, value = {.at = "", .len = 0};
   bool present, has_value = sqlite3_value_type(values[2]) != SQLITE_NULL;
   size_t room;
+  uint32_t code;
   char *out;
-  (void)count;
   if (!read_query(context, values[0], &text, &query, &present) || !read_text(context, values[1], &name) ||
       (has_value && !read_text(context, values[2], &value)))
     return;
   room = query.len + 3 * (name.len + value.len) + 2;
   out = sqlite3_malloc64(room);
-  if (!out)
+  if (!out) {
     sqlite3_result_error_nomem(context);
-  else if (uriparse_set_pair(query.at, query.len, name.at, name.len, value.at, value.len, has_value, out, room, &room) == URIPARSE_OK)
-    result_with_query(context, &text, out, room);
+    return;
+  }
+  code = appends ? uriparse_append_pair(query.at, query.len, name.at, name.len, value.at, value.len, has_value, out, room, &room)
+                 : uriparse_set_pair(query.at, query.len, name.at, name.len, value.at, value.len, has_value, out, room, &room);
+  if (code == URIPARSE_OK) result_with_query(context, &text, out, room);
+  sqlite3_free(out);
+}
+
+/* uri_with_param(t, name, value) */
+static void with_param(sqlite3_context *context, int count, sqlite3_value **values) {
+  (void)count;
+  result_with_pair(context, values, false);
+}
+
+/* uri_with_appended_param(t, name, value) */
+static void with_appended_param(sqlite3_context *context, int count, sqlite3_value **values) {
+  (void)count;
+  result_with_pair(context, values, true);
+}
+
+/* Whether sqlite3_interrupt hasn't ended the statement that runs. Before version 3.41 only another statement says so. */
+static bool may_go_on(void *data) {
+  sqlite3 *db = data;
+#if SQLITE_VERSION_NUMBER >= 3041000
+  if (sqlite3_libversion_number() >= 3041000) return !sqlite3_is_interrupted(db);
+#endif
+  return sqlite3_exec(db, "SELECT 1", NULL, NULL, NULL) != SQLITE_INTERRUPT;
+}
+
+/* The reference without the pairs of these names, which are written as in a query. */
+static void result_without(sqlite3_context *context, const struct text *text, struct text query, bool present, const char *names,
+                           size_t len) {
+  char *out = sqlite3_malloc64(2 * (sqlite3_uint64)query.len + 1);
+  uint32_t code;
+  if (!out) {
+    sqlite3_result_error_nomem(context);
+    return;
+  }
+  code = pairs_drop(&query.at, &query.len, names, len, out, may_go_on, sqlite3_context_db_handle(context));
+  if (code == PAIRS_STOPPED)
+    sqlite3_result_error_code(context, SQLITE_INTERRUPT);
+  else if (code == URIPARSE_BAD_NAMES)
+    sqlite3_result_error(context, uriparse_error_text(code), -1);
+  else if (!present)
+    sqlite3_result_text64(context, text->at, text->len, SQLITE_TRANSIENT, SQLITE_UTF8);
+  else
+    result_with_query(context, text, code == URIPARSE_OK ? query.at : NULL, query.len);
   sqlite3_free(out);
 }
 
 /* uri_without_params(t, name, ..): the names are written as in a query, and "utm_*" stands for each that begins so. */
 static void without_params(sqlite3_context *context, int count, sqlite3_value **values) {
   struct text text, query, name;
-  size_t len = 0, size, needed;
-  uint32_t code;
+  size_t len = 0;
   bool present;
-  char *names, *out;
+  char *names;
+  if (count < 1) {
+    sqlite3_result_error(context, "wrong number of arguments to function uri_without_params()", -1);
+    return;
+  }
   if (!read_query(context, values[0], &text, &query, &present)) return;
-  size = query.len + 1;
   for (int i = 1; i < count; i++) {
     if (!read_text(context, values[i], &name)) return;
-    size += name.len + 1;
+    len += name.len + 1;
   }
-  if (count < 2 || !present) {
+  if (!len) {
     sqlite3_result_text64(context, text.at, text.len, SQLITE_TRANSIENT, SQLITE_UTF8);
     return;
   }
-  out = sqlite3_malloc64(size);
-  if (!out) {
+  names = sqlite3_malloc64(len);
+  if (!names) {
     sqlite3_result_error_nomem(context);
     return;
   }
-  names = out + query.len;
+  len = 0;
   for (int i = 1; i < count; i++) {
     read_text(context, values[i], &name);
     memcpy(names + len, name.at, name.len);
     names[len + name.len] = '&';
     len += name.len + 1;
   }
-  code = uriparse_drop_pairs(query.at, query.len, names, len - 1, out, query.len, &needed);
-  if (code == URIPARSE_OK || code == URIPARSE_NO_PAIRS)
-    result_with_query(context, &text, code == URIPARSE_OK ? out : NULL, needed);
-  else if (code == URIPARSE_BAD_NAMES)
-    sqlite3_result_error(context, uriparse_error_text(code), -1);
-  sqlite3_free(out);
+  result_without(context, &text, query, present, names, len - 1);
+  sqlite3_free(names);
+}
+
+/* uri_without_param(t, name): the name is data, in which no "*" and no "&" means anything. */
+static void without_param(sqlite3_context *context, int count, sqlite3_value **values) {
+  struct text text, query, name;
+  bool present;
+  char *quoted;
+  (void)count;
+  if (!read_query(context, values[0], &text, &query, &present) || !read_text(context, values[1], &name)) return;
+  quoted = sqlite3_malloc64(3 * (sqlite3_uint64)name.len + 1);
+  if (!quoted) {
+    sqlite3_result_error_nomem(context);
+    return;
+  }
+  pairs_quote(name.at, name.len, quoted);
+  result_without(context, &text, query, present, quoted, 3 * name.len);
+  sqlite3_free(quoted);
 }
 
 /* The table uri_pairs(t): a row for each pair of the query of a reference. The third column is hidden, and is the argument. */
@@ -493,7 +550,7 @@ static int pairs_filter(sqlite3_vtab_cursor *cursor, int plan, const char *name,
     pairs->uri = sqlite3_value_dup(values[0]);
     if (!pairs->uri) return SQLITE_NOMEM;
     text = sqlite3_value_type(pairs->uri) == SQLITE_BLOB ? sqlite3_value_blob(pairs->uri) : (const char *)sqlite3_value_text(pairs->uri);
-    if (!text && sqlite3_value_bytes(pairs->uri)) return SQLITE_NOMEM;
+    if (!text && sqlite3_value_type(pairs->uri) != SQLITE_BLOB) return SQLITE_NOMEM;
     if (text && uriparse_parse(text, (size_t)sqlite3_value_bytes(pairs->uri), &parts) == URIPARSE_OK && parts.query.present) {
       pairs->query = text + parts.query.begin;
       pairs->len = parts.query.end - parts.query.begin;
@@ -509,16 +566,10 @@ static int pairs_eof(sqlite3_vtab_cursor *cursor) { return !((struct pairs *)cur
 static int pairs_column(sqlite3_vtab_cursor *cursor, sqlite3_context *context, int column) {
   struct pairs *pairs = (struct pairs *)cursor;
   struct uriparse_span span = column == NAME ? pairs->pair.name : pairs->pair.value;
-  size_t len = span.end - span.begin;
-  char *out;
-  if (column == URI) {
+  if (column == URI)
     sqlite3_result_value(context, pairs->uri);
-  } else if (span.present) {
-    out = sqlite3_malloc64(len + 1);
-    if (!out) return SQLITE_NOMEM;
-    len = pairs_read(pairs->query + span.begin, len, false, out);
-    sqlite3_result_text64(context, out, len, sqlite3_free, SQLITE_UTF8);
-  }
+  else if (span.present)
+    result_decoded(context, pairs->query + span.begin, span.end - span.begin);
   return SQLITE_OK;
 }
 
@@ -583,8 +634,9 @@ static const struct {
   {"uri_replace", 3, replace, NULL},       {"uri_compare", 2, compare, NULL},
   {"uri_is_within", 2, is_within, NULL},   {"uri_host_is_within", 2, host_is_within, NULL},
   {"uri_default_port", 1, default_port, NULL}, {"uri_host_flags", 1, host_flags, NULL},
-  {"uri_param", 2, param, NULL},
-  {"uri_with_param", 3, with_param, NULL}, {"uri_without_params", -1, without_params, NULL},
+  {"uri_is_uri", 1, is_uri, NULL},         {"uri_param", 2, param, NULL},
+  {"uri_with_param", 3, with_param, NULL}, {"uri_with_appended_param", 3, with_appended_param, NULL},
+  {"uri_without_param", 2, without_param, NULL}, {"uri_without_params", -1, without_params, NULL},
 };
 
 __attribute__((visibility("default")))

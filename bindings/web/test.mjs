@@ -41,9 +41,9 @@ const CALLS = {
 
 // The components as the program lists them, without the whole text.
 function listed(parts) {
-  const host = parts.host_kind && `host.${parts.host_kind}`;
+  const host = parts.hostKind && `host.${parts.hostKind}`;
   const named = [["scheme", parts.scheme], ["username", parts.username], ["password", parts.password], [host, parts.host],
-    ["port", parts.port], ["path", parts.path], ["query", parts.query], ["fragment", parts.fragment]];
+    ["port", parts.portNumber], ["path", parts.path], ["query", parts.query], ["fragment", parts.fragment]];
   return named.filter(([, value]) => value !== null).map(([name, value]) => `${name}=${value}\n`).join("");
 }
 
@@ -79,7 +79,9 @@ await test("each component and its place", () => {
   const parts = uris.parse("http://u:p@h:080/a//b?q#");
   assert.deepEqual(parts.segments, ["a", "", "b"]);
   assert.deepEqual(parts.places.port, [13, 16]);
-  assert.equal(parts.port, 80);
+  assert.deepEqual([parts.port, parts.portNumber, parts.hostKind, parts.authority], ["080", 80, "name", "u:p@h:080"]);
+  assert.deepEqual([uris.parse("//h:").port, uris.parse("//h:").portNumber], ["", null]);
+  assert.deepEqual(["port", "portNumber", "hostKind", "authority"].map((name) => uris.parse("a")[name]), [null, null, null, null]);
   assert.equal(parts.fragment, "");
   assert.deepEqual(parts.places.fragment, [24, 24]);
   assert.equal(uris.parse("a").query, null);
@@ -123,6 +125,7 @@ await test("the messages are those of the header", async () => {
 
 await test("no fault", () => assert.equal(uris.fault("http://h/a"), null));
 await test("a base without a scheme", () => assert.throws(() => uris.resolve("/a", "b"), { inBase: true, argument: "base", component: "scheme", code: 0x103, place: 0, message: "base: the scheme is missing" }));
+await test("a base whose colon stands in a segment", () => assert.throws(() => uris.resolve("1:2", "b"), { place: 0, message: "base: the scheme is missing" }));
 await test("the base's error comes first", () => assert.throws(() => uris.resolve("s:%", "%"), { inBase: true, argument: "base", text: "s:%" }));
 await test("the reference's error", () => assert.throws(() => uris.resolve("s:a", "%"), { inBase: false, argument: "reference", text: "%", place: 0 }));
 await test("the merged path has too many segments", () => {
@@ -149,9 +152,10 @@ await test("a lone surrogate", () => {
 await test("a URL", () => assert.equal(uris.normalize(new URL("http://h/%7Ea")), "http://h/~a"));
 await test("a value that is no text", () => {
   for (const value of [undefined, null, 1, true, ["a"], {}, Symbol("a")]) {
-    for (const name of ["parse", "fault", "isURI", "hash", "normalize", "escape", "decode", "pairs"]) {
+    for (const name of ["parse", "fault", "isURI", "hash", "normalize", "origin", "escape", "decode", ...(value === null ? [] : ["pairs"])]) {
       assert.throws(() => uris[name](value), TypeError, name);
     }
+    assert.throws(() => uris.pair("s:", value), TypeError);
     for (const call of [(one) => uris.equal("a", one), (one) => uris.equal(one, "a"), (one) => uris.resolve("s:", one),
       (one) => uris.resolve(one, "a"), (one) => uris.encode("query", one)]) {
       assert.throws(() => call(value), TypeError);
@@ -183,7 +187,7 @@ await test("what leads to a URI", () => {
   assert.equal(uris.relativize("http://a/b/c/d?q", "http://a/b/g#s"), "../g#s");
   assert.equal(uris.relativize(new URL("http://a/b"), new URL("http://c/")), "//c/");
   assert.equal(uris.relativize("s:a", "s:a"), "");
-  assert.throws(() => uris.relativize("s:", "/a"), { inBase: false, argument: "reference", component: "scheme", code: 3, place: 0, message: "reference: the scheme is missing" });
+  assert.throws(() => uris.relativize("s:", "/a"), { inBase: false, argument: "uri", component: "scheme", code: 3, place: 0, message: "uri: the scheme is missing" });
   assert.throws(() => uris.relativize("/a", "%"), { inBase: true, argument: "base", code: 0x103 });
 });
 
@@ -208,10 +212,30 @@ await test("the order, and URIs and hosts within others", () => {
   }
   assert.throws(() => uris.hostIsWithin("//h", "a b"), { argument: "domain", code: 0x131, place: 1, text: "a b" });
   assert.throws(() => uris.hostIsWithin("a b", "h"), { argument: "text", code: 0x51 });
-  assert.deepEqual(uris.hostFlags("//%31.2.3.4"), { hidesAddress: true, mayBeNumeric: true });
-  assert.deepEqual(uris.hostFlags("//0x7f.1"), { hidesAddress: false, mayBeNumeric: true });
-  assert.deepEqual(uris.hostFlags("//example.com"), { hidesAddress: false, mayBeNumeric: false });
+  assert.deepEqual(uris.hostFlags("//%31.2.3.4"), { hidesAddress: true, mayBeNumeric: true, hasEscapes: false });
+  assert.deepEqual(uris.hostFlags("//0x7f.1"), { hidesAddress: false, mayBeNumeric: true, hasEscapes: false });
+  assert.deepEqual(uris.hostFlags("//example.com"), { hidesAddress: false, mayBeNumeric: false, hasEscapes: false });
+  assert.deepEqual(uris.hostFlags("//evil.org%2F.example.com"), { hidesAddress: false, mayBeNumeric: false, hasEscapes: true });
   assert.deepEqual([uris.defaultPort("HTTPS"), uris.defaultPort("mailto"), uris.defaultPort("")], [443, null, null]);
+});
+
+await test("rows of hostile input", async () => {
+  const calls = { within: (uri, base) => uris.isWithin(uri, base), "host-within": (text, domain) => uris.hostIsWithin(text, domain),
+    "host-flags": (text) => Object.values(uris.hostFlags(text)).reduce((sum, isSet, at) => sum + (isSet ? 1 << at : 0), 0) };
+  const tsv = await readFile(new URL("../../tests/hostile.tsv", import.meta.url), "utf8");
+  const fields = tsv.split("\n").filter((line) => line && line[0] !== "#").map((line) => line.split("\t"));
+  const plain = (field) => field.replace(/\\x(..)/g, (_, digits) => String.fromCharCode(parseInt(digits, 16)));
+  const asked = fields.map((row) => row.map(plain)).filter(([, call]) => call in calls);
+  for (const [, call, text, other, expected] of asked) {
+    let answer;
+    try {
+      answer = calls[call](text, other);
+    } catch (error) {
+      assert(error instanceof URIParseError, error);
+    }
+    assert.equal(answer === undefined ? "rejected" : { true: "yes", false: "no" }[answer] ?? String(answer), expected, `${call} ${text}`);
+  }
+  assert(asked.length > 700);
 });
 
 await test("pairs by name", () => {
@@ -236,6 +260,105 @@ await test("pairs by name", () => {
   assert.equal(uris.encode("pair", "a&b=c d+"), "a%26b%3Dc%20d%2B");
 });
 
+await test("places of wrong domains and names", () => {
+  for (const [domain, place] of [["example.com:443", 11], ["h/", 1], ["u@h", 1], ["http://h", 4], ["[v1.a/b]", 5], ["\u00fc", 0], ["\ud800", 0]]) {
+    assert.throws(() => uris.hostIsWithin("//h", domain), { name: "URIParseError", argument: "domain", component: "host", place, text: domain });
+  }
+  assert.throws(() => uris.withoutPairs("?a", "c", "b#"), { code: 13, argument: "names", text: "b#", place: 1 });
+  assert.throws(() => uris.withoutPairs("s:", "a b"), { code: 13, argument: "names", place: 1 });
+  assert.throws(() => uris.pair("s:", "\ud800"), TypeError);
+});
+
+await test("names and values that are data", () => {
+  assert.equal(uris.withoutPair("?a=1&b", "a"), "?b");
+  assert.equal(uris.withoutPair("?a%26b=1&a&b", "a&b"), "?a&b");
+  assert.equal(uris.withoutPair("?a*=1&ab=2&%61%2A", "a*"), "?ab=2");
+  assert.equal(uris.withoutPair("s:", "*"), "s:");
+  const bytes = uris.decode("%FF%26");
+  assert.equal(uris.encode("pair", bytes), "%FF%26");
+  assert.equal(uris.withPair("?a", bytes, bytes), "?a&%FF%26=%FF%26");
+  assert.equal(uris.withAppendedPair("?a", "a", bytes.subarray(1)), "?a&a=%26");
+  assert.equal(uris.pair("?%FF%26=x", bytes), "x");
+  assert.equal(uris.withoutPair("?%FF%26=x&y", bytes), "?y");
+  assert.equal(uris.encode("query", new Uint8Array()), "");
+});
+
+await test("a getter is read once", () => {
+  for (const call of [(one) => uris.withPair(one, "a", "1"), (one) => uris.withAppendedPair(one, "a", "1"), (one) => uris.withoutPairs(one, "b")]) {
+    const texts = ["//first?b", "//second?c"];
+    assert.match(call({ get href() { return texts.shift(); } }), /^\/\/first/);
+    assert.equal(texts.length, 1);
+  }
+});
+
+await test("a string has no other text", () => {
+  Object.defineProperty(Object.prototype, "href", { value: "https://example.com/", configurable: true });
+  try {
+    assert.equal(uris.hostIsWithin("http://evil.test/", "example.com"), false);
+    assert.equal(uris.normalize("a"), "a");
+  } finally {
+    delete Object.prototype.href;
+  }
+});
+
+await test("calls are functions", () => {
+  assert.deepEqual(["HTTP://h", "b"].map(uris.normalize), ["http://h/", "b"]);
+  const { parse, withPair } = uris;
+  assert.equal(withPair(parse("s:?a").text, "b", null), "s:?a&b");
+});
+
+// The rows that all languages share. A field with a byte that isn't UTF-8 is read as bytes.
+function meant(field) {
+  if (field === "\\N") {
+    return null;
+  }
+  const bytes = Buffer.concat(field.split(/(\\x..)/).map((piece) => (/^\\x..$/.test(piece) ? Buffer.from(piece.slice(2), "hex") : Buffer.from(piece))));
+  const text = bytes.toString();
+  return Buffer.from(text).equals(bytes) ? text : new Uint8Array(bytes);
+}
+const header = await readFile(new URL("../c/uriparse.h", import.meta.url), "utf8");
+const codes = header.slice(header.indexOf("enum uriparse_code {"), header.indexOf("URIPARSE_COMPONENT_MASK = "));
+const CODE_NAMES = new Map([...codes.matchAll(/^  URIPARSE_(\w+) = (0x\w+|\d+)/gm)].map(([, name, code]) => [Number(code), name]));
+const flagsOf = (text) => Object.values(uris.hostFlags(text)).reduce((sum, isSet, at) => sum + (isSet ? 1 << at : 0), 0);
+const listedPairs = (text) => uris.pairs(uris.parse(text).query).map(([name, value]) => `<${name}${value === null ? "" : `=${value}`}>`).join("");
+// A value as text, or as bytes if it is none.
+const decoded = (text) => meant([...uris.decode(text)].map((byte) => `\\x${byte.toString(16).padStart(2, "0")}`).join(""));
+// A call, and what its errors call its arguments.
+const SHARED = {
+  check: [(text) => Boolean(uris.parse(text)), "text"], is_uri: [uris.isURI], port: [(text) => uris.parse(text).port, "text"],
+  port_number: [(text) => uris.parse(text).portNumber, "text"], host_kind: [(text) => uris.parse(text).hostKind, "text"],
+  host_flags: [flagsOf, "text"], default_port: [uris.defaultPort], origin: [uris.origin, "text"], normalize: [uris.normalize, "text"],
+  pairs: [listedPairs, "text"], pair: [uris.pair, "text"], with_pair: [uris.withPair, "text"], with_appended_pair: [uris.withAppendedPair, "text"],
+  without_pairs: [uris.withoutPairs, "text", "names"], without_pair: [uris.withoutPair, "text"], host_is_within: [uris.hostIsWithin, "text", "domain"],
+  is_within: [uris.isWithin, "uri", "base"], resolve: [uris.resolve, "base", "reference"], relativize: [uris.relativize, "base", "uri"],
+  equal: [uris.equal, "left", "right"], compare: [uris.compare, "left", "right"], decode: [decoded, "text"], encode: [uris.encode],
+  replace: [(text, name, value) => uris.replace(text, { [name]: value }), "text"],
+};
+// No call has a query that is no reference's, and a value that isn't UTF-8 is no string.
+const isShared = ([call, ...fields]) => call !== "drop_pairs" && !(call === "pair" && typeof meant(fields.at(-1)) === "object" && meant(fields.at(-1)) !== null);
+const tsv = await readFile(new URL("../rows.tsv", import.meta.url), "utf8");
+let shared = 0;
+for (const row of tsv.split("\n").filter((line) => line && line[0] !== "#").map((line) => line.split("\t")).filter(isShared)) {
+  const [call, ...fields] = row;
+  const expected = fields.pop();
+  const [answer, ...names] = SHARED[call];
+  shared += 1;
+  await test(`rows.tsv: ${row.join(" ")}`, () => {
+    const [mark, code, component, argument, place] = expected.split(" ");
+    if (mark !== "!") {
+      const given = answer(...fields.map(meant));
+      assert.deepEqual(typeof given === "number" || typeof given === "boolean" ? String(given) : given, meant(expected));
+      return;
+    }
+    assert.throws(() => answer(...fields.map(meant)), (error) => {
+      const own = argument === "-" ? "changes" : call === "replace" && argument === "3" ? component : names[argument - 1];
+      assert.deepEqual([CODE_NAMES.get(error.code & 0xff), error.component, error.argument, error.place], [code, component, own, place === "-" ? 0 : Number(place)]);
+      return error instanceof URIParseError;
+    });
+  });
+}
+await test("the rows that all languages share", () => assert(shared > 250, `${shared} rows`));
+
 await test("components that are replaced", () => {
   assert.equal(uris.replace("HTTP://u:p@h:8080/%7Ea?q#f", { host: "example.org", username: null }), "HTTP://example.org:8080/%7Ea?q#f");
   assert.equal(uris.replace("a:b/c", { port: 80, host: "h" }), "a://h:80/b/c");
@@ -244,14 +367,15 @@ await test("components that are replaced", () => {
   assert.equal(uris.replace("", {}), "");
   assert.equal(uris.replace("s:", { path: "a".repeat(99999), fragment: "b".repeat(99999) }), `s:${"a".repeat(99999)}#${"b".repeat(99999)}`);
   assert.throws(() => uris.replace("a b", { host: "h" }), { code: 0x51, argument: "text", place: 1 });
-  assert.throws(() => uris.replace("//h", { query: "", host: "a/b" }), { code: 0x31, argument: "host", component: "host", text: "a/b", place: 0,
-    message: "host: invalid byte or percent-encoding in the host" });
+  assert.throws(() => uris.replace("//h", { query: "", host: "a/b" }), { code: 0x31, argument: "host", component: "host", text: "a/b", place: 1,
+    message: "host: invalid byte or percent-encoding in the host, at index 1" });
   assert.throws(() => uris.replace("//h", { port: 65536 }), { code: 0x42, argument: "port" });
   assert.throws(() => uris.replace("//h", { path: "\u00fc" }), { code: 0x51, argument: "path", text: "\u00fc" });
   assert.throws(() => uris.replace("//h", { username: "a:b" }), { code: 0x10, argument: "username" });
   assert.throws(() => uris.replace("s:a", { scheme: "1" }), { code: 0x82, component: "scheme" });
-  assert.throws(() => uris.replace("a", { port: 1 }), { code: 11, argument: "text", component: "host" });
-  assert.throws(() => uris.replace("s:a:b", { scheme: null }), { code: 4, argument: "text" });
+  assert.throws(() => uris.replace("a", { port: 1 }), { code: 11, argument: "changes", component: "host" });
+  assert.throws(() => uris.replace("s:a:b", { scheme: null }), { code: 4, argument: "changes" });
+  assert.throws(() => uris.replace("s:", { path: `${"a/".repeat(1_000_000)}a` }), { code: 5, argument: "path", component: "path" });
   assert.throws(() => uris.replace("//h//a", { host: null, path: undefined }), { code: 6, component: "path" });
   for (const wrong of [{ Host: "h" }, { authority: "h" }, { host: 5 }, { port: 1.5 }, { path: ["a"] }, { port: true }]) {
     assert.throws(() => uris.replace("//h", wrong), TypeError);
@@ -262,13 +386,14 @@ await test("origins", () => {
   assert.equal(uris.origin(new URL("http://h:8080/a")), "http://h:8080");
   assert.equal(uris.origin("http://%31.2.3.4"), uris.origin("http://1.2.3.4"));
   for (const text of ["file:///a", "http:///a", "http://", "https://u@:443/a"]) {
-    assert.throws(() => uris.origin(text), { name: "URIParseError", code: 10, component: null, place: 0, message: "the reference has no origin" });
+    assert.equal(uris.origin(text), null);
   }
   assert.throws(() => uris.origin("http://h/ "), { code: 0x51, place: 9 });
 });
 await test("pairs", () => {
   assert.deepEqual(uris.pairs("a=1&b=&c&&=d=e"), [["a", "1"], ["b", ""], ["c", null], ["", null], ["", "d=e"]]);
   assert.deepEqual(uris.pairs(""), [["", null]]);
+  assert.deepEqual(uris.pairs(null), []);
   assert.deepEqual(uris.pairs("é=😀&%26=+#"), [["é", "😀"], ["%26", "+#"]]);
   assert.deepEqual(uris.pairs("a".repeat(100_000)), [["a".repeat(100_000), null]]);
   assert.equal(uris.pairs("a=1&".repeat(10_000)).length, 10_001);
@@ -327,8 +452,8 @@ await test("a result that is too long for a string", () => {
     areRight();
   }
 });
-// A module without calls, whose heap begins at this address.
-function moduleAt(address) {
+// A module without calls, or with one that traps, whose heap begins at this address.
+function moduleAt(address, isTrapping = false) {
   const number = [];
   for (let rest = address; ; rest = Math.floor(rest / 128)) {
     const [low, isLast] = [rest % 128, rest < 64];
@@ -337,8 +462,10 @@ function moduleAt(address) {
   }
   const section = (id, content) => [id, content.length, ...content];
   const name = (text) => [text.length, ...new TextEncoder().encode(text)];
-  return new Uint8Array([0, 97, 115, 109, 1, 0, 0, 0, ...section(5, [1, 0, 1]), ...section(6, [1, 126, 0, 66, ...number, 11]),
-    ...section(7, [2, ...name("memory"), 2, 0, ...name("__heap_base"), 3, 0])]);
+  const [types, functions, exported, code] = isTrapping
+    ? [section(1, [1, 96, 2, 126, 126, 1, 127]), section(3, [1, 0]), [...name("uriparse_is_uri"), 0, 0], section(10, [1, 3, 0, 0, 11])] : [[], [], [], []];
+  return new Uint8Array([0, 97, 115, 109, 1, 0, 0, 0, ...types, ...functions, ...section(5, [1, 0, 1]), ...section(6, [1, 126, 0, 66, ...number, 11]),
+    ...section(7, [isTrapping ? 3 : 2, ...name("memory"), 2, 0, ...name("__heap_base"), 3, 0, ...exported]), ...code]);
 }
 await test("a memory ends a page below 4 GiB", async () => {
   const page = 65536;
@@ -362,6 +489,35 @@ await test("a memory that doesn't grow", async () => {
     }
   }
 });
+await test("an engine that makes no second instance keeps the memory", () => {
+  const { Instance } = WebAssembly;
+  uris.isURI(`s:${"a".repeat(20_000_000)}`);
+  WebAssembly.Instance = function none() { throw new RangeError("too large for this thread"); };
+  try {
+    areRight();
+    assert.equal(uris.normalize("HTTP://h"), "http://h/");
+    assert.deepEqual(uris.pairs("a=1"), [["a", "1"]]);
+  } finally {
+    WebAssembly.Instance = Instance;
+  }
+  areRight();
+});
+await test("after a trap the instance starts again", async () => {
+  const trapping = await load(moduleAt(1024, true));
+  const { Instance } = WebAssembly;
+  let started = 0;
+  WebAssembly.Instance = function counted(...words) {
+    started += 1;
+    return new Instance(...words);
+  };
+  try {
+    assert.throws(() => trapping.isURI("a"), WebAssembly.RuntimeError);
+    assert.throws(() => trapping.isURI("a"), WebAssembly.RuntimeError);
+  } finally {
+    WebAssembly.Instance = Instance;
+  }
+  assert.equal(started, 2);
+});
 await test("a runtime without WebAssembly, or without bulk memory", async () => {
   const { validate } = WebAssembly;
   const whole = globalThis.WebAssembly;
@@ -381,6 +537,6 @@ await test("a runtime without WebAssembly, or without bulk memory", async () => 
 });
 await test("many segments", () => assert.equal(uris.fault("a/".repeat(1000001)).code, 5));
 
-console.log(`web: ${tried} rows of the program`);
+console.log(`web: ${tried} rows of the program, ${shared} of all languages`);
 console.log(`${passed} passed, ${failed} failed`);
 process.exit(failed ? 1 : 0);

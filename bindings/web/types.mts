@@ -9,22 +9,23 @@ async function told(text: string): Promise<string> {
   }
   const parts: Parts = uris.parse(text);
   const host: Place = parts.places.host;
-  const kind: "name" | "ipv4" | "ipv6" | "ipvfuture" | null = parts.host_kind;
+  const kind: "name" | "ipv4" | "ipv6" | "ipvfuture" | null = parts.hostKind;
   const segments: string[] = parts.segments.map((segment) => uris.encode("segment", segment));
   const names: Encoded[] = ["username", "password", "query", "fragment"];
   const bytes: Uint8Array = uris.decode(parts.query ?? "");
-  const pairs: Pair[] = uris.pairs(parts.query ?? "");
+  const pairs: Pair[] = uris.pairs(parts.query);
   const values: (string | null)[] = pairs.map(([name, value]) => value ?? name);
   const changes: Changes = { host: "h", port: 80, query: null, fragment: undefined };
   const flags: HostFlags = uris.hostFlags(text);
+  const origin: string | null = uris.origin(text);
   const order: -1 | 0 | 1 = uris.compare(text, text);
-  const checks: boolean[] = [uris.isWithin(text, text), uris.hostIsWithin(text, "h"), flags.hidesAddress, flags.mayBeNumeric];
+  const checks: boolean[] = [uris.isWithin(text, text), uris.hostIsWithin(text, "h"), flags.hidesAddress, flags.mayBeNumeric, flags.hasEscapes];
   const port: number | null = uris.defaultPort("http");
-  const value: string | null = uris.pair(text, "a");
-  const edited: string = uris.withoutPairs(uris.withAppendedPair(uris.withPair(text, "a", 1), "b", null), "a", "b*");
+  const value: string | null = uris.pair(text, new Uint8Array([97]));
+  const edited: string = uris.withoutPair(uris.withoutPairs(uris.withAppendedPair(uris.withPair(text, "a", 1), "b", bytes), "a", "b*"), "*");
   const hash: bigint = uris.hash(text) % 2n;
   const equal: boolean = uris.equal(text, uris.normalize(text)) && uris.isURI(uris.resolve(text, "a"));
-  return [host?.[0], kind, parts.port?.toFixed(), segments, names, bytes.length, values, hash, equal, uris.escape(text), uris.origin(text),
+  return [host?.[0], kind, parts.port, parts.portNumber?.toFixed(), parts.authority, segments, names, bytes.length, values, hash, equal, uris.escape(text), origin,
     uris.relativize(text, text), uris.replace(text, changes), order, checks, port?.toFixed(), value, edited].join();
 }
 

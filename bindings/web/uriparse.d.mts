@@ -7,12 +7,16 @@ export type Component = "scheme" | "authority" | "username" | "password" | "host
 export interface Parts {
   text: string;
   scheme: string | null;
+  authority: string | null;
   username: string | null;
   password: string | null;
   /** With its brackets, if it has any. */
   host: string | null;
-  host_kind: "name" | "ipv4" | "ipv6" | "ipvfuture" | null;
-  port: number | null;
+  hostKind: "name" | "ipv4" | "ipv6" | "ipvfuture" | null;
+  /** The digits, which may be none. */
+  port: string | null;
+  /** Null also if there are no digits. */
+  portNumber: number | null;
   path: string;
   query: string | null;
   fragment: string | null;
@@ -40,8 +44,8 @@ export class URIParseError extends Error {
   readonly place: number;
   /** The text that is rejected. */
   readonly text: string;
-  /** Which text of the call it is; the URI of `relativize` is its reference. Of `replace` also the component whose value it is. */
-  readonly argument: "text" | "base" | "reference" | "left" | "right" | "uri" | "domain" | "names" | Exclude<Component, "authority">;
+  /** Which text of the call it is. Of `replace` also the component whose value it is, or the changes as a whole. */
+  readonly argument: "text" | "base" | "reference" | "left" | "right" | "uri" | "domain" | "names" | "changes" | Exclude<Component, "authority">;
   /** Whether it is the base of `resolve`, `relativize` or `isWithin`. */
   readonly inBase: boolean;
 }
@@ -49,14 +53,18 @@ export class URIParseError extends Error {
 /** What bytes are encoded as. */
 export type Encoded = "username" | "password" | "segment" | "query" | "fragment" | "pair";
 
-/** What a name of a host may be taken for: an IPv4 address that it hides, or a number. */
+/** What a name of a host may be taken for: an IPv4 address that it hides, a number, or another host, by the escapes that it has. */
 export interface HostFlags {
   hidesAddress: boolean;
   mayBeNumeric: boolean;
+  hasEscapes: boolean;
 }
 
 /** A string, or an object that has one, such as a `URL`. Another value is a `TypeError`. */
 export type Input = string | { readonly href: string };
+
+/** A string, whose UTF-8 is meant, or bytes. A lone surrogate is a `TypeError`. */
+export type Data = Input | Uint8Array;
 
 /** A pair of a query, as it stands in the text: `decode` reads both. The value is null if the pair has no "=". */
 export type Pair = [name: string, value: string | null];
@@ -73,7 +81,7 @@ export interface Changes {
   fragment?: string | null;
 }
 
-/** The calls. A string or a result that is longer than the memory or a string can be is a `RangeError`. */
+/** The calls, which may be handed on as functions. A string or a result that is longer than the memory or a string can be is a `RangeError`. */
 export interface URIs {
   parse(text: Input): Parts;
   fault(text: Input): Fault | null;
@@ -88,21 +96,23 @@ export interface URIs {
   normalize(text: Input): string;
   resolve(base: Input, reference: Input): string;
   relativize(base: Input, uri: Input): string;
-  /** A URI without a host, or with an empty one, has no origin. The name "%31.2.3.4" and the address "1.2.3.4" have one text. */
-  origin(text: Input): string;
+  /** Null for a URI without a host, or with an empty one. The name "%31.2.3.4" and the address "1.2.3.4" have one text. */
+  origin(text: Input): string | null;
   /** Setting the host makes an authority, and removing it removes the authority. Another name is a `TypeError`. */
   replace(text: Input, changes: Changes): string;
   /** A lone surrogate is a `TypeError`. */
   escape(text: Input): string;
   /** A lone surrogate is a `TypeError`. */
-  pairs(query: Input): Pair[];
+  pairs(query: Input | null): Pair[];
   /** The decoded value of the first pair of this name: "" without an "=". One that isn't UTF-8 is a `TypeError`. */
-  pair(uri: Input, name: string): string | null;
-  withPair(uri: Input, name: string, value: string | number | null): string;
-  withAppendedPair(uri: Input, name: string, value: string | number | null): string;
+  pair(uri: Input, name: Data): string | null;
+  withPair(uri: Input, name: Data, value: Data | number | null): string;
+  withAppendedPair(uri: Input, name: Data, value: Data | number | null): string;
+  /** Names as they are written in a query: "utm_*" stands for each that begins with "utm_". */
   withoutPairs(uri: Input, ...names: string[]): string;
-  /** A lone surrogate is a `TypeError`. */
-  encode(component: Encoded, text: Input): string;
+  /** One name, which is data: a "*" is one of the name. */
+  withoutPair(uri: Input, name: Data): string;
+  encode(component: Encoded, data: Data): string;
   decode(text: Input): Uint8Array;
 }
 

@@ -41,7 +41,12 @@ const CODES = {
 };
 
 const NO_ROOM = 2;
+const NO_SCHEME = 3;
+const NO_ORIGIN = 10;
+const MISSING_HOST = 11;
+const BAD_NAMES = 13;
 const NO_PAIRS = 14;
+const SCHEME_LETTER = 0x82;
 const IN_BASE = 0x100;
 const HOST_KINDS = { 1: "name", 4: "ipv4", 6: "ipv6", 7: "ipvfuture" };
 const ENCODED = { username: 0x10, password: 0x20, segment: 0x50, query: 0x60, fragment: 0x70, pair: 0x90 };
@@ -71,6 +76,7 @@ const NEXT = 2 * SPAN;
 // The flags of a host.
 const HIDES_ADDRESS = 1;
 const MAY_BE_NUMERIC = 2;
+const HAS_ESCAPES = 4;
 
 const WORD = 16;
 const PAGE = 65536;
@@ -83,6 +89,17 @@ const MOST = 2 ** 32 - PAGE;
 // needs at most four times what its strings may take, so calls with strings of one length keep their memory.
 const LARGE = 2 ** 24;
 const SPARE = 8;
+
+// What stands around a component in a reference that shows where its text is wrong, and the characters that would end it there.
+const AROUND = {
+  username: ["//", /[/?#@:[\]]/g, "@"],
+  password: ["//:", /[/?#@[\]]/g, "@"],
+  host: ["//", /[/?#@:]/g, ""],
+  port: ["//:", /[/?#@:[\]]/g, ""],
+  path: ["//h/", /[?#]/g, ""],
+  query: ["?", /#/g, ""],
+  fragment: ["#", /$^/g, ""],
+};
 
 // A module that fills memory, with an instruction for bulk memory.
 const PROBE = new Uint8Array([0, 97, 115, 109, 1, 0, 0, 0, 1, 4, 1, 96, 0, 0, 3, 2, 1, 0, 5, 3, 1, 0, 0,
@@ -116,7 +133,7 @@ export function isSupported() {
 
 // A text as a string: that of a URL is its `href`.
 function textOf(value) {
-  const text = value?.href ?? value;
+  const text = typeof value === "string" ? value : value?.href;
   if (typeof text !== "string") {
     throw new TypeError(`a text is a string or a URL, not ${value === null ? "null" : typeof value}`);
   }
@@ -133,9 +150,19 @@ function wellFormed(value) {
   return text;
 }
 
-// The value of a pair, which may be a number; null stands for none.
+// Data: bytes, or a string, whose UTF-8 is meant.
 function dataOf(value) {
-  return value === null ? "" : wellFormed(typeof value === "number" ? String(value) : value);
+  return value instanceof Uint8Array ? value : wellFormed(value);
+}
+
+// The value of a pair, which may be a number; null stands for none.
+function valueOf(value) {
+  return value === null ? "" : dataOf(typeof value === "number" ? String(value) : value);
+}
+
+// How many bytes a string's UTF-8 has at most, or bytes are.
+function mostBytes(text) {
+  return typeof text === "string" ? 3 * text.length : text.length;
 }
 
 // The names of the components that are set and of those that are removed, and the strings that they are set to.
@@ -206,10 +233,15 @@ class URIs {
   constructor(module, instance) {
     this.#module = module;
     this.#start(instance);
+    // Calls may be handed on as functions.
+    for (const name of Object.getOwnPropertyNames(URIs.prototype).filter((one) => one !== "constructor")) {
+      Object.defineProperty(this, name, { value: this[name].bind(this) });
+    }
   }
 
   #start({ exports }) {
-    this.#calls = exports;
+    const calls = Object.entries(exports).filter(([, value]) => typeof value === "function");
+    this.#calls = Object.fromEntries(calls.map(([name, call]) => [name, this.#guarded(call)]));
     this.#memory = exports.memory;
     this.#base = rounded(Number(exports.__heap_base.value));
   }
@@ -238,16 +270,38 @@ class URIs {
     }
   }
 
-  // Gives the memory up for a small one.
+  // Gives the memory up for a small one. It stays if the engine makes no instance here, as some don't on the main thread of a page.
   #restart() {
+    let instance;
+    try {
+      instance = new WebAssembly.Instance(this.#module, {});
+    } catch {
+      return;
+    }
     this.#bytes = new Uint8Array();
     this.#words = new Uint32Array();
-    this.#start(new WebAssembly.Instance(this.#module, {}));
+    this.#start(instance);
   }
 
-  // Writes the UTF-8 of a text to the memory, and returns its length. The view ends where a text of this length must: Node's
+  // A call of the module, after which the instance starts again if it trapped, since its stack isn't unwound.
+  #guarded(call) {
+    return (...numbers) => {
+      try {
+        return call(...numbers);
+      } catch (error) {
+        this.#restart();
+        throw error;
+      }
+    };
+  }
+
+  // Writes bytes, or the UTF-8 of a text, to the memory, and returns its length. The view ends where a text of this length must: Node's
   // `encodeInto` writes nothing, and throws nothing, if its view has 2 GiB or more.
   #encode(text, at) {
+    if (typeof text !== "string") {
+      this.#bytes.set(text, at);
+      return text.length;
+    }
     const { read, written } = this.#encoder.encodeInto(text, this.#bytes.subarray(at, at + 3 * text.length));
     if (read !== text.length) {
       this.#restart();
@@ -272,9 +326,9 @@ class URIs {
     return string;
   }
 
-  // Writes texts one after another. Returns their places and lengths, and a place after them with room for numbers.
+  // Writes texts or bytes one after another. Returns their places and lengths, and a place after them with room for numbers.
   #put(...texts) {
-    const end = this.#base + texts.reduce((sum, text) => sum + 3 * text.length, 2 * WORD + PARTS);
+    const end = this.#base + texts.reduce((sum, text) => sum + mostBytes(text), 2 * WORD + PARTS);
     const size = this.#memory.buffer.byteLength;
     if (size > LARGE && (end < LARGE || SPARE * end < size)) {
       this.#restart();
@@ -299,9 +353,29 @@ class URIs {
     return this.#word(at) + 2 ** 32 * this.#word(at + 4);
   }
 
-  // The error of a text with this code: the place is that of its first fault, if the text alone is at fault.
+  // The error of a text with this code: the place is that of its first fault, if the text alone is at fault and has a scheme if it must.
   #error(code, text, argument) {
-    return new URIParseError(code, this.fault(text)?.place ?? null, text, argument);
+    const hasPlace = (code & ~IN_BASE) !== NO_SCHEME;
+    return new URIParseError(code, hasPlace ? this.fault(text)?.place ?? null : null, text, argument);
+  }
+
+  // The error of the text of a component, or null for the place if it isn't wrong by itself.
+  #errorIn(component, code, text, argument) {
+    return new URIParseError(code, this.#placeIn(component, text, code), text, argument);
+  }
+
+  // Where the text of a component is wrong by itself, or null. In a reference that has it, each character that would end it is replaced
+  // by one that no component has.
+  #placeIn(component, text, code) {
+    if (component === "scheme") {
+      const place = code === SCHEME_LETTER ? 0 : text.search(/[^A-Za-z0-9+.-]/);
+      return place < 0 ? null : place;
+    }
+    const [before, ends, after] = AROUND[component];
+    const bracket = component === "host" && text[0] === "[" ? text.search(/\]|$/) : 0;
+    const read = text.replace(ends, (character, at) => (character === ":" && at < bracket ? ":" : "^"));
+    const fault = this.fault(`${before}${read}${after}`);
+    return fault && fault.place - before.length;
   }
 
   /** The components of a reference, as they stand in its text, and their places. Absent ones are null. */
@@ -326,11 +400,13 @@ class URIs {
     return {
       text,
       scheme: found.scheme,
+      authority: found.authority,
       username: found.username,
       password: found.password,
       host: found.host,
-      host_kind: HOST_KINDS[words[first + HOST_KIND]] ?? null,
-      port: found.port ? words[first + PORT] : null,
+      hostKind: HOST_KINDS[words[first + HOST_KIND]] ?? null,
+      port: found.port,
+      portNumber: found.port ? words[first + PORT] : null,
       path: found.path,
       query: found.query,
       fragment: found.fragment,
@@ -355,7 +431,7 @@ class URIs {
   /** Whether a text is a URI: a reference with a scheme. */
   isURI(text) {
     const { spans } = this.#put(textOf(text));
-    return this.#calls.uriparse_is_uri(spans[0], spans[1]) !== 0;
+    return (this.#calls.uriparse_is_uri(spans[0], spans[1]) & 1) !== 0;
   }
 
   /** Whether two references differ at most by percent-encoding and case where these mean nothing. */
@@ -397,12 +473,11 @@ class URIs {
   /** Whether the host of a reference is a domain or a name within it, label by label. */
   hostIsWithin(text, domain) {
     text = textOf(text);
-    domain = wellFormed(domain);
+    domain = textOf(domain);
     const { spans, next } = this.#put(text, domain);
     const code = this.#calls.uriparse_host_is_within(...spans, BigInt(next));
     if (code & IN_BASE) {
-      const fault = this.fault(`//${domain}`);
-      throw new URIParseError(code, fault ? Math.max(fault.place - 2, 0) : domain.length, domain, "domain");
+      throw this.#errorIn("host", code, domain, "domain");
     }
     if (code !== 0) {
       throw this.#error(code, text);
@@ -419,7 +494,7 @@ class URIs {
       throw this.#error(code, text);
     }
     const flags = this.#word(next);
-    return { hidesAddress: (flags & HIDES_ADDRESS) !== 0, mayBeNumeric: (flags & MAY_BE_NUMERIC) !== 0 };
+    return { hidesAddress: (flags & HIDES_ADDRESS) !== 0, mayBeNumeric: (flags & MAY_BE_NUMERIC) !== 0, hasEscapes: (flags & HAS_ESCAPES) !== 0 };
   }
 
   /** The default port of a scheme, or null. */
@@ -455,11 +530,11 @@ class URIs {
     }
   }
 
-  // The text that a call writes for these texts.
-  #written(call, texts, first = []) {
+  // The text that a call writes for these texts, of which the second has this name.
+  #written(call, texts, first = [], second = "reference") {
     const { code, bytes } = this.#answer(call, texts, first);
     if (code !== 0) {
-      const [text, argument] = texts.length === 1 ? texts : code & IN_BASE ? [texts[0], "base"] : [texts[1], "reference"];
+      const [text, argument] = texts.length === 1 ? texts : code & IN_BASE ? [texts[0], "base"] : [texts[1], second];
       throw this.#error(code, text, argument);
     }
     return this.#string(bytes);
@@ -477,7 +552,7 @@ class URIs {
 
   /** The text of the reference that leads from a base to a URI: resolved against the base, it yields what the URI yields. */
   relativize(base, uri) {
-    return this.#written("uriparse_relativize", [textOf(base), textOf(uri)]);
+    return this.#written("uriparse_relativize", [textOf(base), textOf(uri)], [], "uri");
   }
 
   /** The text of a reference, made of any text: with escapes for what may not stand where it does. */
@@ -485,9 +560,14 @@ class URIs {
     return this.#written("uriparse_escape", [wellFormed(text)]);
   }
 
-  /** The text of the origin of a URI: RFC 6454, section 6.2. A name such as "%31.2.3.4" and the address "1.2.3.4" have one. */
+  /** The text of the origin of a URI, or null: RFC 6454, section 6.2. A name such as "%31.2.3.4" and the address "1.2.3.4" have one. */
   origin(text) {
-    return this.#written("uriparse_origin", [textOf(text)]);
+    text = textOf(text);
+    const { code, bytes } = this.#answer("uriparse_origin", [text]);
+    if (code !== 0 && code !== NO_ORIGIN) {
+      throw this.#error(code, text);
+    }
+    return code === NO_ORIGIN ? null : this.#string(bytes);
   }
 
   /** The text of a reference with components set, or removed by null. What isn't named stays, byte for byte. */
@@ -522,23 +602,26 @@ class URIs {
     }
   }
 
-  // The error of a text, else of the value of a component, else of the result.
+  // The error of a text, else of the value of a component, else of the changes as a whole.
   #errorOfChange(code, text, set, values) {
     if (this.fault(text)) {
       return this.#error(code, text);
     }
-    const at = set.indexOf(meaning(code)[0]);
-    return at < 0 || code < 0x10 ? new URIParseError(code, null, text) : new URIParseError(code, null, values[at], set[at]);
+    const at = code === MISSING_HOST ? -1 : set.indexOf(meaning(code)[0]);
+    return at < 0 ? new URIParseError(code, null, text, "changes") : this.#errorIn(set[at], code, values[at], set[at]);
   }
 
-  /** The pairs of a query: the pieces between its "&", each a name and, after its first "=", a value or null. */
+  /** The pairs of a query: the pieces between its "&", each a name and, after its first "=", a value or null. None for null. */
   pairs(query) {
+    if (query === null) {
+      return [];
+    }
     const { spans, next } = this.#put(wellFormed(query));
     const first = next / 4;
     const words = this.#words;
     const found = [];
     let at = 0n;
-    while (this.#calls.uriparse_next_pair(...spans, at, BigInt(next)) !== 0) {
+    while (this.#calls.uriparse_next_pair(...spans, at, BigInt(next)) & 1) {
       const [name, value] = [first + NAME, first + VALUE].map((span) => (words[span + IS_PRESENT] & 0xff
         ? this.#decoder.decode(this.#bytes.subarray(this.#base + words[span + BEGIN], this.#base + words[span + END])) : null));
       found.push([name, value]);
@@ -549,58 +632,59 @@ class URIs {
 
   /** The decoded value of the first pair of the query with this name, or null if there is none. It must be UTF-8. */
   pair(uri, name) {
+    name = dataOf(name);
     const { query } = this.parse(uri);
     if (query === null) {
       return null;
     }
-    const { spans, next } = this.#put(query, wellFormed(name));
-    if (this.#calls.uriparse_find_pair(...spans, BigInt(next)) === 0) {
+    const { spans, next } = this.#put(query, name);
+    if ((this.#calls.uriparse_find_pair(...spans, BigInt(next)) & 1) === 0) {
       return null;
     }
     const [begin, end] = [BEGIN, END].map((word) => this.#words[next / 4 + VALUE + word]);
     return this.#strict.decode(this.decode(query.slice(begin, end)));
   }
 
-  // Where a text that is no query is wrong.
-  #placeInQuery(text) {
-    const [query] = text.split("#");
-    const fault = this.fault(`?${query}`);
-    return fault ? fault.place - 1 : query.length;
-  }
-
-  // The reference with the query that a call writes for these texts, or without one if no pair is left.
-  #withQuery(uri, call, texts, last) {
-    const { code, bytes } = this.#answer(call, texts, [], last);
-    if (code !== 0 && code !== NO_PAIRS) {
-      throw new URIParseError(code, this.#placeInQuery(texts[1]), texts[1], "names");
-    }
-    return this.replace(uri, { query: code === NO_PAIRS ? null : this.#string(bytes) });
+  // The reference with the query that a call writes for it and these data.
+  #withPair(call, uri, name, value) {
+    const { text, query } = this.parse(uri);
+    const { bytes } = this.#answer(call, [query ?? "", dataOf(name), valueOf(value)], [], [value === null ? 0 : 1]);
+    return this.replace(text, { query: this.#string(bytes) });
   }
 
   /** The reference with one pair of this name, in place of the first one; without an "=" if the value is null. */
   withPair(uri, name, value) {
-    const query = this.parse(uri).query ?? "";
-    return this.#withQuery(uri, "uriparse_set_pair", [query, wellFormed(name), dataOf(value)], [value === null ? 0 : 1]);
+    return this.#withPair("uriparse_set_pair", uri, name, value);
   }
 
   /** The reference with a pair after all others. */
   withAppendedPair(uri, name, value) {
-    const query = this.parse(uri).query ?? "";
-    return this.#withQuery(uri, "uriparse_append_pair", [query, wellFormed(name), dataOf(value)], [value === null ? 0 : 1]);
+    return this.#withPair("uriparse_append_pair", uri, name, value);
   }
 
   /** The reference without the pairs of these names, written as in a query: "utm_*" stands for each that begins with "utm_". */
   withoutPairs(uri, ...names) {
     const { text, query } = this.parse(uri);
-    return query === null || names.length === 0 ? text : this.#withQuery(uri, "uriparse_drop_pairs", [query, names.map(wellFormed).join("&")]);
+    const texts = names.map(wellFormed);
+    const { code, bytes } = this.#answer("uriparse_drop_pairs", [query ?? "", texts.join("&")]);
+    if (code === BAD_NAMES) {
+      const wrong = texts.find((name) => this.#placeIn("query", name) !== null);
+      throw this.#errorIn("query", code, wrong, "names");
+    }
+    return query === null || names.length === 0 ? text : this.replace(text, { query: code === NO_PAIRS ? null : this.#string(bytes) });
   }
 
-  /** The UTF-8 of a string as the text of a component: "username", "password", "segment", "query", "fragment" or "pair". */
-  encode(component, text) {
+  /** The reference without the pairs of this name, which is data. */
+  withoutPair(uri, name) {
+    return this.withoutPairs(uri, this.encode("pair", name));
+  }
+
+  /** Bytes, or the UTF-8 of a string, as the text of a component: "username", "password", "segment", "query", "fragment" or "pair". */
+  encode(component, data) {
     if (!Object.hasOwn(ENCODED, component)) {
       throw new TypeError(`no component that is encoded is ${component}`);
     }
-    return this.#written("uriparse_encode", [wellFormed(text)], [ENCODED[component]]);
+    return this.#written("uriparse_encode", [dataOf(data)], [ENCODED[component]]);
   }
 
   /** The bytes that the text of a component stands for. */
@@ -608,7 +692,7 @@ class URIs {
     text = textOf(text);
     const { code, bytes } = this.#answer("uriparse_decode", [text]);
     if (code !== 0) {
-      throw new URIParseError(code, this.#placeInQuery(text), text);
+      throw this.#errorIn("query", code, text);
     }
     return bytes.slice();
   }

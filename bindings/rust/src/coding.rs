@@ -1,8 +1,9 @@
 //! Percent-encoding.
 
-use crate::error::Error;
+use crate::check::host_fault;
+use crate::error::{Component, Error};
 use crate::owned::written;
-use crate::sys::Write;
+use crate::sys::{self, Write};
 use alloc::string::String;
 use alloc::vec::Vec;
 
@@ -19,7 +20,7 @@ pub enum Encoding {
     Query = 0x60,
     /// A fragment.
     Fragment = 0x70,
-    /// A name or a value of a pair of a query: `&`, `=` and `+` are encoded too.
+    /// A name or a value of a pair of a query: `&`, `=`, `+` and `*` are encoded too, so `without_pairs` takes a name as it is.
     Pair = 0x90,
 }
 
@@ -45,7 +46,7 @@ pub fn encode(encoding: Encoding, bytes: impl AsRef<[u8]>) -> String {
 /// use uriparse_rattle::decode;
 ///
 /// assert_eq!(decode("R%26D")?, b"R&D");
-/// assert_eq!(decode("a%2").unwrap_err().position(), 1);
+/// assert_eq!(decode("a%2").unwrap_err().position(), Some(1));
 /// # Ok::<(), uriparse_rattle::Error>(())
 /// ```
 ///
@@ -59,12 +60,35 @@ pub fn decode(component: &str) -> Result<Vec<u8>, Error> {
     decoded.map_err(|code| faulty_query(code, component))
 }
 
-/// The error of a string that isn't a query: that of the reference `?STRING`, in which a `#` would begin a fragment.
+/// The error of a string that isn't a query.
 pub(crate) fn faulty_query(code: u32, text: &str) -> Error {
-    let query = text.split('#').next().unwrap_or(text);
-    let reference = ["?", query, "<"].concat();
-    Error::new(code, reference.as_bytes()).moved_back(1)
+    Error::at(code, fault_in(Component::Query, code, text))
 }
+
+/// Where the string of a component is wrong by itself, by a reference that has it. There each character that would end the component is
+/// replaced by one that no component has.
+pub(crate) fn fault_in(component: Component, code: u32, text: &str) -> Option<usize> {
+    let (before, ends, after) = match component {
+        Component::Scheme if code == SCHEME_LETTER => return Some(0),
+        Component::Scheme => {
+            let is_part = |byte: &u8| byte.is_ascii_alphanumeric() || b"+-.".contains(byte);
+            return text.bytes().position(|byte| !is_part(&byte));
+        }
+        Component::Host => return host_fault(code, text.as_bytes()),
+        Component::Username => ("//", "/?#@:[]", "@"),
+        Component::Password => ("//:", "/?#@[]", "@"),
+        Component::Port => ("//:", "/?#@:[]", ""),
+        Component::Path => ("//h/", "?#", ""),
+        Component::Query => ("?", "#", ""),
+        Component::Fragment => ("#", "", ""),
+    };
+    let reference = [before, &text.replace(|one| ends.contains(one), "^"), after].concat();
+    let fault = sys::first_fault(reference.as_bytes())?;
+    Some(fault.1 - before.len())
+}
+
+/// The code of a scheme whose first byte is no letter.
+const SCHEME_LETTER: u32 = 0x82;
 
 /// Makes a reference of any string: what RFC 3986 doesn't allow in its place is percent-encoded, except the delimiters of an authority;
 /// all else stays. Characters that aren't ASCII become the escapes of their UTF-8, also in a host. A `%` without two hexadecimal digits

@@ -1,7 +1,7 @@
 //! Components that are changed, and pairs by name.
 
-use crate::coding::{decode, faulty_query};
-use crate::error::Error;
+use crate::coding::{decode, encode, fault_in, faulty_query, Encoding};
+use crate::error::{Component, Error, ErrorKind};
 use crate::owned::{written, UriBuf, UriRefBuf};
 use crate::reference::{Uri, UriRef};
 use crate::sys::{self, Paired, Value, Values, Write};
@@ -48,7 +48,37 @@ pub struct Changes<'a> {
     pub fragment: Change<'a>,
 }
 
+/// An absent component of a reference removes it.
+impl<'a> From<Option<&'a str>> for Change<'a> {
+    fn from(component: Option<&'a str>) -> Self {
+        component.map_or(Self::Remove, Self::Set)
+    }
+}
+
 impl Changes<'_> {
+    /// The error with this code, at the first wrong byte of the value that is wrong, if one is wrong by itself.
+    fn error(&self, code: u32) -> Error {
+        let error = Error::at(code, None);
+        let change = match error.component() {
+            _ if error.kind() == ErrorKind::MissingHost => return error,
+            Some(Component::Scheme) => self.scheme,
+            Some(Component::Username) => self.username,
+            Some(Component::Password) => self.password,
+            Some(Component::Host) => self.host,
+            Some(Component::Port) => self.port,
+            Some(Component::Path) => self.path,
+            Some(Component::Query) => self.query,
+            Some(Component::Fragment) => self.fragment,
+            None => return error,
+        };
+        match (error.component(), change) {
+            (Some(component), Change::Set(value)) => {
+                Error::at(code, fault_in(component, code, value))
+            }
+            _ => error,
+        }
+    }
+
     /// What the library for C is told, and the strings that components become.
     fn values(&self) -> (Values, String) {
         let mut text = String::new();
@@ -92,7 +122,7 @@ impl UriRef<'_> {
             text.as_bytes(),
         )) {
             Ok(text) => UriRefBuf::try_from(text),
-            Err(code) => Err(Error::new(code, b"")),
+            Err(code) => Err(changes.error(code)),
         }
     }
 
@@ -148,15 +178,28 @@ impl UriRef<'_> {
     /// # Ok::<(), uriparse_rattle::Error>(())
     /// ```
     pub fn without_pairs(&self, names: &str) -> Result<UriRefBuf, Error> {
-        let query = match self.query() {
-            None => return Ok(self.to_buf()),
-            Some(query) => query,
-        };
+        let query = self.query().unwrap_or("");
         match written(Write::WithoutPairs(query.as_bytes(), names.as_bytes())) {
-            Ok(query) => Ok(self.with_query(Change::Set(&query))),
-            Err(sys::NO_PAIRS) => Ok(self.with_query(Change::Remove)),
+            Ok(query) if self.query().is_some() => Ok(self.with_query(Change::Set(&query))),
+            Ok(_) | Err(sys::NO_PAIRS) => Ok(self.with_query(Change::Remove)),
             Err(code) => Err(faulty_query(code, names)),
         }
+    }
+
+    /// The reference without the pairs of this name, and without the query if none is left. The name is data: a `*` is one of the name.
+    ///
+    /// ```
+    /// use uriparse_rattle::UriRef;
+    ///
+    /// let reference = UriRef::parse("?a%26b=1&a&b")?;
+    /// assert_eq!(reference.without_pair("a&b").as_str(), "?a&b");
+    /// # Ok::<(), uriparse_rattle::Error>(())
+    /// ```
+    #[must_use]
+    pub fn without_pair(&self, name: &str) -> UriRefBuf {
+        let names = encode(Encoding::Pair, name);
+        self.without_pairs(&names)
+            .expect("what is encoded is a query")
     }
 
     fn paired(&self, name: &str, value: Option<&str>, is_appended: bool) -> UriRefBuf {
@@ -215,7 +258,71 @@ impl Uri<'_> {
     pub fn without_pairs(&self, names: &str) -> Result<UriBuf, Error> {
         self.as_uri_ref().without_pairs(names).map(of_uri)
     }
+
+    /// The URI without the pairs of this name: see [`UriRef::without_pair`].
+    #[must_use]
+    pub fn without_pair(&self, name: &str) -> UriBuf {
+        of_uri(self.as_uri_ref().without_pair(name))
+    }
 }
+
+/// The edits of a type that owns its string, which are those of its view.
+macro_rules! edits {
+    ($name:ident, $view:ident) => {
+        impl $name {
+            /// The same with some components changed: see [`UriRef::change`].
+            ///
+            /// # Errors
+            ///
+            /// As for [`UriRef::change`] and [`Uri::change`].
+            pub fn change(&self, changes: &Changes<'_>) -> Result<Self, Error> {
+                self.$view().change(changes)
+            }
+
+            /// The decoded value of the first pair of this name: see [`UriRef::pair`].
+            #[must_use]
+            pub fn pair(&self, name: &str) -> Option<Vec<u8>> {
+                self.$view().pair(name)
+            }
+
+            /// The same with one pair of this name: see [`UriRef::with_pair`].
+            #[must_use]
+            pub fn with_pair(&self, name: &str, value: Option<&str>) -> Self {
+                self.$view().with_pair(name, value)
+            }
+
+            /// The same with a pair after all others: see [`UriRef::with_appended_pair`].
+            #[must_use]
+            pub fn with_appended_pair(&self, name: &str, value: Option<&str>) -> Self {
+                self.$view().with_appended_pair(name, value)
+            }
+
+            /// The same without the pairs of some names: see [`UriRef::without_pairs`].
+            ///
+            /// # Errors
+            ///
+            /// [`InvalidNames`](crate::ErrorKind::InvalidNames) if the names are no query.
+            pub fn without_pairs(&self, names: &str) -> Result<Self, Error> {
+                self.$view().without_pairs(names)
+            }
+
+            /// The same without the pairs of this name: see [`UriRef::without_pair`].
+            #[must_use]
+            pub fn without_pair(&self, name: &str) -> Self {
+                self.$view().without_pair(name)
+            }
+
+            /// The normal form: see [`UriRef::normalize`].
+            #[must_use]
+            pub fn normalize(&self) -> Self {
+                self.$view().normalize()
+            }
+        }
+    };
+}
+
+edits!(UriRefBuf, as_uri_ref);
+edits!(UriBuf, as_uri);
 
 /// What a URI with another query is.
 fn of_uri(reference: UriRefBuf) -> UriBuf {

@@ -142,9 +142,19 @@ impl ErrorKind {
         }
     }
 
-    /// The component that is wrong, if it is one.
+    /// The component that the error is about, if it is one: also the scheme that is missing, the path with too many segments, and the
+    /// host that a change needs.
     #[must_use]
     pub fn component(self) -> Option<Component> {
+        match self {
+            Self::NotUri => return Some(Component::Scheme),
+            Self::MissingHost => return Some(Component::Host),
+            Self::InvalidNames => return Some(Component::Query),
+            Self::SchemelessPathStartsWithColonSegment
+            | Self::ExceededMaximumPathLength
+            | Self::AbsolutePathStartsWithTwoSlashes => return Some(Component::Path),
+            _ => {}
+        }
         match self.code() & 0xf0 {
             0x10 => Some(Component::Username),
             0x20 => Some(Component::Password),
@@ -179,37 +189,35 @@ impl fmt::Display for ErrorKind {
 /// let error = UriRef::parse("http://h/a b").unwrap_err();
 /// assert_eq!(error.kind(), ErrorKind::InvalidPathCharacter);
 /// assert_eq!(error.component(), Some(Component::Path));
-/// assert_eq!(error.position(), 10);
+/// assert_eq!(error.position(), Some(10));
 /// assert_eq!(error.to_string(), "invalid path character at byte 10");
+///
+/// let error = uriparse_rattle::Uri::parse("/a").unwrap_err();
+/// assert_eq!((error.position(), error.to_string().as_str()), (None, "not URI"));
 /// ```
 #[derive(Clone, Copy, Debug, PartialEq, Eq, Hash)]
 pub struct Error {
     kind: ErrorKind,
-    position: usize,
+    position: Option<usize>,
 }
 
 impl Error {
     /// A string without a scheme where a URI is expected.
     pub(crate) const NOT_URI: Self = Self {
         kind: ErrorKind::NotUri,
-        position: 0,
+        position: None,
     };
 
     /// The error with this code of a string, at the string's first fault if it has one.
     pub(crate) fn new(code: u32, text: &[u8]) -> Self {
-        let position = sys::first_fault(text).map_or(0, |fault| fault.1);
+        Self::at(code, sys::first_fault(text).map(|fault| fault.1))
+    }
+
+    /// The error with this code, and how many bytes of the string that it is about precede the first wrong one, if one is wrong.
+    pub(crate) fn at(code: u32, position: Option<usize>) -> Self {
         Self {
             kind: ErrorKind::of(code),
             position,
-        }
-    }
-
-    /// The same error in a string that begins `skipped` bytes later.
-    #[cfg(feature = "alloc")]
-    pub(crate) fn moved_back(self, skipped: usize) -> Self {
-        Self {
-            position: self.position.saturating_sub(skipped),
-            ..self
         }
     }
 
@@ -219,18 +227,19 @@ impl Error {
         self.kind
     }
 
-    /// How many bytes precede the first fault.
+    /// How many bytes precede the first fault of the string that is rejected: the input, a domain, the names of pairs, or the value that a
+    /// change sets.
     ///
     /// The position of a wrong byte is its own, of an escape without two digits that of its `%`, of one segment too many that of the
     /// slash before it. An address of a wrong form is wrong at its `[`, a port that is too large at its first digit, and a path with a
-    /// colon where none may be at its first byte. It is 0 if the string isn't wrong by itself: it has no scheme, or the target of two
-    /// strings has too many segments.
+    /// colon where none may be at its first byte. It is `None` if no byte is wrong by itself: the string has no scheme, the target of two
+    /// strings has too many segments, or a value can't stand where a change puts it.
     #[must_use]
-    pub fn position(&self) -> usize {
+    pub fn position(&self) -> Option<usize> {
         self.position
     }
 
-    /// The component that is wrong, if it is one.
+    /// The component that the error is about: see [`ErrorKind::component`].
     #[must_use]
     pub fn component(&self) -> Option<Component> {
         self.kind.component()
@@ -239,7 +248,10 @@ impl Error {
 
 impl fmt::Display for Error {
     fn fmt(&self, f: &mut fmt::Formatter<'_>) -> fmt::Result {
-        write!(f, "{} at byte {}", self.kind, self.position)
+        match self.position {
+            Some(position) => write!(f, "{} at byte {position}", self.kind),
+            None => self.kind.fmt(f),
+        }
     }
 }
 

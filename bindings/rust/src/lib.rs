@@ -19,6 +19,8 @@ mod coding;
 mod edit;
 mod error;
 #[cfg(feature = "alloc")]
+mod key;
+#[cfg(feature = "alloc")]
 mod owned;
 mod pairs;
 mod reference;
@@ -31,6 +33,8 @@ pub use coding::{decode, encode, escape, Encoding};
 #[cfg(feature = "alloc")]
 pub use edit::{Change, Changes};
 pub use error::{BufferError, Component, Error, ErrorKind};
+#[cfg(feature = "alloc")]
+pub use key::AsUriRef;
 #[cfg(feature = "alloc")]
 pub use owned::{UriBuf, UriRefBuf};
 pub use pairs::Pairs;

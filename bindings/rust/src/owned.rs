@@ -1,9 +1,11 @@
 //! References and URIs that own their strings.
 
 use crate::error::Error;
+use crate::key::AsUriRef;
 use crate::reference::{Uri, UriRef};
 use crate::sys::{Parts, Write};
 use alloc::string::String;
+use core::borrow::Borrow;
 use core::convert::TryFrom;
 use core::fmt;
 use core::hash::{Hash, Hasher};
@@ -31,7 +33,7 @@ pub struct UriRefBuf {
 /// use uriparse_rattle::{UriBuf, UriRef};
 ///
 /// let page: UriBuf = "http://h/a/b".parse()?;
-/// let target = page.as_uri().resolve(&UriRef::parse("../c")?)?;
+/// let target = page.resolve(&UriRef::parse("../c")?)?;
 /// assert_eq!(target.to_string(), "http://h/c");
 /// # Ok::<(), uriparse_rattle::Error>(())
 /// ```
@@ -48,7 +50,7 @@ pub(crate) fn written(write: Write<'_>) -> Result<String, u32> {
 fn written_reference(write: Write<'_>) -> Result<UriRefBuf, Error> {
     match written(write) {
         Ok(text) => UriRefBuf::try_from(text),
-        Err(code) => Err(Error::new(code, b"")),
+        Err(code) => Err(Error::at(code, None)),
     }
 }
 
@@ -156,6 +158,12 @@ impl UriRefBuf {
         self.text
     }
 
+    /// Whether it is a URI: a reference with a scheme.
+    #[must_use]
+    pub fn is_uri(&self) -> bool {
+        self.scheme().is_some()
+    }
+
     optional_scheme!('_);
     components!('_);
 
@@ -195,6 +203,27 @@ impl UriBuf {
         self.0.scheme().unwrap_or("")
     }
 
+    /// Resolves the reference against this base: see [`Uri::resolve`].
+    ///
+    /// # Errors
+    ///
+    /// As for [`Uri::resolve`].
+    pub fn resolve(&self, reference: &UriRef<'_>) -> Result<Self, Error> {
+        self.as_uri().resolve(reference)
+    }
+
+    /// The reference that leads from this base to the URI: see [`Uri::relativize`].
+    #[must_use]
+    pub fn relativize(&self, uri: &Uri<'_>) -> UriRefBuf {
+        self.as_uri().relativize(uri)
+    }
+
+    /// The origin: see [`Uri::origin`].
+    #[must_use]
+    pub fn origin(&self) -> Option<String> {
+        self.as_uri().origin()
+    }
+
     components!('_);
 
     fn as_parts(&self) -> (&str, &Parts) {
@@ -213,6 +242,18 @@ impl Eq for UriRefBuf {}
 impl Hash for UriRefBuf {
     fn hash<H: Hasher>(&self, state: &mut H) {
         self.as_uri_ref().hash(state);
+    }
+}
+
+impl<'a> Borrow<dyn AsUriRef + 'a> for UriRefBuf {
+    fn borrow(&self) -> &(dyn AsUriRef + 'a) {
+        self
+    }
+}
+
+impl<'a> Borrow<dyn AsUriRef + 'a> for UriBuf {
+    fn borrow(&self) -> &(dyn AsUriRef + 'a) {
+        self
     }
 }
 

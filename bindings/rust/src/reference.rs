@@ -146,7 +146,12 @@ impl<'a> Uri<'a> {
     /// If the string is no reference, its error says why and where. If it has no scheme, or a colon in its first segment shows that it was
     /// meant to have one, the error is [`ErrorKind::NotUri`].
     pub fn parse(text: &'a str) -> Result<Self, Error> {
-        match UriRef::parse(text) {
+        Self::of(UriRef::parse(text))
+    }
+
+    /// The URI that a reference is, or its error.
+    fn of(reference: Result<UriRef<'a>, Error>) -> Result<Self, Error> {
+        match reference {
             Ok(reference) => Self::try_from(reference),
             Err(error) if error.kind() == ErrorKind::SchemelessPathStartsWithColonSegment => {
                 Err(Error::NOT_URI)
@@ -300,6 +305,15 @@ impl<'a> TryFrom<&'a str> for Uri<'a> {
 
     fn try_from(text: &'a str) -> Result<Self, Error> {
         Self::parse(text)
+    }
+}
+
+/// Bytes that aren't UTF-8 are rejected like any other byte that no reference has.
+impl<'a> TryFrom<&'a [u8]> for Uri<'a> {
+    type Error = Error;
+
+    fn try_from(bytes: &'a [u8]) -> Result<Self, Error> {
+        Self::of(UriRef::try_from(bytes))
     }
 }
 

@@ -11,6 +11,9 @@ pub(crate) const OK: u32 = 0;
 pub(crate) const NO_ROOM: u32 = 2;
 #[cfg(feature = "alloc")]
 pub(crate) const NO_PAIRS: u32 = 14;
+pub(crate) const HOST_BYTE: u32 = 0x31;
+pub(crate) const IPV6_BYTE: u32 = 0x32;
+pub(crate) const FUTURE_BYTE: u32 = 0x34;
 pub(crate) const IN_BASE: u32 = 0x100;
 
 /// `struct uriparse_span`: where a component is.

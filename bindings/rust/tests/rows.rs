@@ -5,7 +5,9 @@ use std::collections::HashMap;
 use std::fs;
 use std::hash::{Hash, Hasher};
 use std::path::Path;
-use uriparse_rattle::{decode, encode, escape, Encoding, Error, HostKind, Pairs, Uri, UriRef};
+use uriparse_rattle::{
+    decode, encode, escape, Encoding, Error, HostKind, Pairs, Uri, UriBuf, UriRef,
+};
 
 /// The base of RFC 3986, section 5.4.
 const RFC_BASE: &str = "http://a/b/c/d;p?q";
@@ -340,6 +342,77 @@ fn listed_pairs(pairs: Pairs<'_>) -> String {
     pairs.map(shown).collect()
 }
 
+/// The columns of tests/hostile.tsv, whose `\xHH` stand for bytes.
+fn hostile_rows() -> Vec<Vec<String>> {
+    let plain = |field: &str| {
+        let mut pieces = field.split("\\x");
+        let mut text = pieces.next().unwrap().to_owned();
+        for piece in pieces {
+            text.push(u8::from_str_radix(&piece[..2], 16).unwrap().into());
+            text += &piece[2..];
+        }
+        text
+    };
+    let tsv = read("hostile.tsv");
+    let lines = tsv.lines().filter(|line| !line.starts_with('#'));
+    lines
+        .map(|line| line.split('\t').map(plain).collect())
+        .collect()
+}
+
+/// The target of a redirect, if it is allowed.
+fn allowed_target(page: &Uri<'_>, location: &str, directory: Option<&Uri<'_>>) -> Option<UriBuf> {
+    let target = page.resolve(&UriRef::parse(location).ok()?).ok()?;
+    let uri = target.as_uri();
+    let is_host_within = |domain: &&str| uri.host_is_within(domain) == Ok(true);
+    let is_allowed = uri.scheme().eq_ignore_ascii_case("https")
+        && uri.username().is_none()
+        && uri.host_kind() == Some(HostKind::Name)
+        && ["example.com", "example.org"].iter().any(is_host_within)
+        && !(uri.hides_address() || uri.may_be_numeric() || uri.has_escapes())
+        && matches!(uri.port_number(), None | Some(443))
+        && directory.map_or(true, |directory| uri.is_within(directory));
+    is_allowed.then_some(target)
+}
+
+/// The answer to a row of tests/hostile.tsv.
+fn answer_to(call: &str, text: &str, other: &str) -> Result<String, Error> {
+    let yes = |is_true| if is_true { "yes" } else { "no" }.to_owned();
+    Ok(match call {
+        "within" => yes(Uri::parse(text)?.is_within(&Uri::parse(other)?)),
+        "host-within" => yes(UriRef::parse(text)?.host_is_within(other)?),
+        "host-flags" => {
+            let read = UriRef::parse(text)?;
+            let sum = u8::from(read.hides_address()) + 2 * u8::from(read.may_be_numeric());
+            (sum + 4 * u8::from(read.has_escapes())).to_string()
+        }
+        _ => {
+            let page = Uri::parse(other)?;
+            let directory = Some(&page).filter(|_| call == "redirect-below");
+            yes(allowed_target(&page, text, directory).is_some())
+        }
+    })
+}
+
+#[test]
+fn hostile_input() {
+    let rows = hostile_rows();
+    for row in &rows {
+        let answer = answer_to(&row[1], &row[2], &row[3]).unwrap_or_else(|_| "rejected".to_owned());
+        assert_eq!(answer, row[4], "{}: {} {}", row[1], row[2], row[3]);
+    }
+    assert!(rows.len() > 700, "{} rows of hostile input", rows.len());
+}
+
+/// The redirect check that the rows try is that of the page.
+#[test]
+fn redirect_check_of_the_page() {
+    let page = include_str!("../README.md");
+    let begin = page.find("/// The target of a redirect").unwrap();
+    let check = &page[begin..begin + page[begin..].find("\n}\n").unwrap()];
+    assert!(include_str!("rows.rs").contains(check));
+}
+
 /// The rows of long texts: a front, a count, a text that is repeated so often, and a back.
 #[test]
 fn limits() {
@@ -377,7 +450,7 @@ fn positions() {
         let (place, rest) = rest.split_once(", ").unwrap();
         let input = input.replace("\\\"", "\"");
         let error = UriRef::parse(&input).unwrap_err();
-        assert_eq!(error.position(), place.parse::<usize>().unwrap(), "{input}");
+        assert_eq!(error.position(), place.parse().ok(), "{input}");
         assert_eq!(
             squeezed(&error.kind().to_string()),
             squeezed(&words_of(rest)),

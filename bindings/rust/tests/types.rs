@@ -1,10 +1,10 @@
 //! What Rust's types add: owned forms, conversions, maps, buffers and threads.
 
-use std::collections::HashMap;
+use std::collections::{BTreeMap, HashMap, HashSet};
 use std::convert::TryFrom;
 use uriparse_rattle::{
-    decode, default_port, BufferError, Change, Changes, Component, Error, ErrorKind, HostKind,
-    Pairs, Uri, UriBuf, UriRef, UriRefBuf,
+    decode, default_port, AsUriRef, BufferError, Change, Changes, Component, Error, ErrorKind,
+    HostKind, Pairs, Uri, UriBuf, UriRef, UriRefBuf,
 };
 
 fn is_shared<T: Send + Sync + Unpin + 'static>() {}
@@ -54,7 +54,7 @@ fn owned_forms() {
 
 #[test]
 fn conversions() {
-    let not_uri = |error: Error| error.kind() == ErrorKind::NotUri && error.position() == 0;
+    let not_uri = |error: Error| error.kind() == ErrorKind::NotUri && error.position().is_none();
     let reference = UriRef::parse("a").unwrap();
     assert!(!reference.is_uri() && not_uri(Uri::try_from(reference).unwrap_err()));
     assert!(not_uri(UriBuf::try_from(reference.to_buf()).unwrap_err()));
@@ -64,10 +64,13 @@ fn conversions() {
         UriRefBuf::try_from(String::from("a b"))
             .unwrap_err()
             .position(),
-        1
+        Some(1)
     );
     assert_eq!(UriRef::try_from(&b"//h"[..]).unwrap().host(), Some("h"));
-    assert_eq!(UriRef::try_from(&b"a\xff"[..]).unwrap_err().position(), 1);
+    let error = UriRef::try_from(&b"a\xff"[..]).unwrap_err();
+    assert_eq!(error.position(), Some(1));
+    assert_eq!(Uri::try_from(&b"s:a"[..]).unwrap().path(), "a");
+    assert!(not_uri(Uri::try_from(&b"a"[..]).unwrap_err()));
     let uri = Uri::try_from("s:").unwrap();
     assert_eq!((UriRef::from(uri).path(), uri.as_ref()), ("", "s:"));
 }
@@ -93,7 +96,19 @@ fn kinds_have_codes() {
         (0x42, Some(Component::Port))
     );
     assert_eq!(ErrorKind::Unknown(0x1f).code(), 0x1f);
-    assert_eq!(ErrorKind::NotUri.component(), None);
+    let colon = ErrorKind::SchemelessPathStartsWithColonSegment;
+    let components = [
+        (ErrorKind::NotUri, Component::Scheme),
+        (ErrorKind::MissingHost, Component::Host),
+        (ErrorKind::InvalidNames, Component::Query),
+        (ErrorKind::ExceededMaximumPathLength, Component::Path),
+        (ErrorKind::AbsolutePathStartsWithTwoSlashes, Component::Path),
+        (colon, Component::Path),
+    ];
+    for (kind, component) in components {
+        assert_eq!(kind.component(), Some(component));
+    }
+    assert_eq!(ErrorKind::Unknown(9).component(), None);
     assert_eq!(ErrorKind::Unknown(0x200).to_string(), "error 0x200");
 }
 
@@ -175,7 +190,7 @@ fn faults_of_decode() {
             position("ab#%"),
             position("é")
         ),
-        (1, 0, 2, 0)
+        (Some(1), Some(0), Some(2), Some(0))
     );
     assert_eq!(
         decode("a#").unwrap_err().kind(),
@@ -267,12 +282,17 @@ fn checks() {
     let error = host_is_within("//h", "a b").unwrap_err();
     assert_eq!(
         (error.kind(), error.component(), error.position()),
-        (ErrorKind::InvalidHostCharacter, Some(Component::Host), 0)
+        (
+            ErrorKind::InvalidHostCharacter,
+            Some(Component::Host),
+            Some(1)
+        )
     );
     let hidden = UriRef::parse("//%31.2.3.4").unwrap();
     assert!(hidden.hides_address() && hidden.may_be_numeric());
     let plain = UriRef::parse("//example.com").unwrap();
-    assert!(!plain.hides_address() && !plain.may_be_numeric());
+    assert!(!plain.hides_address() && !plain.may_be_numeric() && !plain.has_escapes());
+    assert!(UriRef::parse("//a%2Fb").unwrap().has_escapes());
     assert_eq!(
         (default_port("HTTPS"), default_port("h:")),
         (Some(443), None)
@@ -344,7 +364,7 @@ fn pairs_by_name() {
     let error = read("?a").without_pairs("b#").unwrap_err();
     assert_eq!(
         (error.kind(), error.position()),
-        (ErrorKind::InvalidNames, 1)
+        (ErrorKind::InvalidNames, Some(1))
     );
     let uri = Uri::parse("s:?a=1").unwrap();
     assert_eq!(uri.with_pair("a", Some("2")).as_str(), "s:?a=2");
@@ -354,4 +374,84 @@ fn pairs_by_name() {
     );
     assert_eq!(uri.without_pairs("a").unwrap().as_str(), "s:");
     assert_eq!(uri.pair("a").as_deref(), Some(&b"1"[..]));
+}
+
+#[test]
+fn errors_without_a_place_print_none() {
+    let printed = |error: Error| (error.position(), error.to_string());
+    let none = |words: &str| (None, words.to_owned());
+    assert_eq!(printed(Uri::parse("a").unwrap_err()), none("not URI"));
+    let port = Changes {
+        port: Change::Set("1"),
+        ..Changes::default()
+    };
+    let missing = UriRef::parse("a").unwrap().change(&port).unwrap_err();
+    assert_eq!(
+        printed(missing),
+        none("user name, password or port without a host")
+    );
+    let long = format!("s:{}", "/a".repeat(1_000_000));
+    let base = Uri::parse(&long).unwrap();
+    let error = base.resolve(&UriRef::parse("b/c").unwrap()).unwrap_err();
+    assert_eq!(printed(error), none("exceeded maximum path length"));
+    assert_eq!(
+        printed(UriRef::parse("a b").unwrap_err()),
+        (Some(1), "invalid path character at byte 1".to_owned())
+    );
+}
+
+#[test]
+fn owned_types_have_the_calls_of_views() {
+    let uri: UriBuf = "http://h/b?a=1&b".parse().unwrap();
+    assert_eq!(uri.host_is_within("h"), Ok(true));
+    assert!(!(uri.hides_address() || uri.may_be_numeric() || uri.has_escapes()));
+    assert!(uri.is_within(&Uri::parse("http://h/").unwrap()));
+    assert_eq!(uri.pair("a"), Some(b"1".to_vec()));
+    assert_eq!(uri.with_pair("a", None).as_str(), "http://h/b?a&b");
+    let appended = uri.with_appended_pair("a", None);
+    assert_eq!(appended.as_str(), "http://h/b?a=1&b&a");
+    assert_eq!(uri.without_pairs("a").unwrap().as_str(), "http://h/b?b");
+    assert_eq!(uri.without_pair("b").as_str(), "http://h/b?a=1");
+    assert_eq!(uri.normalize(), uri);
+    assert_eq!(uri.origin().as_deref(), Some("http://h"));
+    let reference = UriRef::parse("c").unwrap();
+    assert_eq!(uri.resolve(&reference).unwrap().as_str(), "http://h/c");
+    let base = Uri::parse("http://h/").unwrap();
+    assert_eq!(
+        uri.resolve(&uri.relativize(&base).as_uri_ref()).unwrap(),
+        base.to_buf()
+    );
+    let changes = Changes {
+        query: Change::from(None),
+        host: base.host().into(),
+        ..Changes::default()
+    };
+    assert_eq!(uri.change(&changes).unwrap().as_str(), "http://h/b");
+
+    let reference: UriRefBuf = "//127.1?a".parse().unwrap();
+    assert!(reference.may_be_numeric() && !reference.is_uri());
+    let error = reference.host_is_within("h:1").unwrap_err();
+    assert_eq!(error.position(), Some(1));
+    assert_eq!(reference.change(&changes).unwrap().as_str(), "//h");
+    assert_eq!(reference.without_pair("a").as_str(), "//127.1");
+    assert!(Uri::parse("s://%31.2.3.4").unwrap().hides_address());
+}
+
+#[test]
+fn keys_are_found_by_views() {
+    let key: UriRefBuf = "http://h/~".parse().unwrap();
+    let uri: UriBuf = "HTTP://h/~".parse().unwrap();
+    let link = UriRef::parse("HTTP://h/%7e").unwrap();
+    let other = UriRef::parse("a").unwrap();
+    let map: HashMap<_, _> = [(key.clone(), 1)].into_iter().collect();
+    let tree: BTreeMap<_, _> = [(key.clone(), 1)].into_iter().collect();
+    let set: HashSet<UriBuf> = [uri.clone()].into_iter().collect();
+    let view = Uri::parse("http://h/~").unwrap();
+    let views: [&dyn AsUriRef; 4] = [&link, &key, &uri, &view];
+    for view in views {
+        assert_eq!((map.get(view), tree.get(view)), (Some(&1), Some(&1)));
+        assert!(set.contains(view));
+    }
+    let other: &dyn AsUriRef = &other;
+    assert_eq!((map.get(other), tree.get(other)), (None, None));
 }

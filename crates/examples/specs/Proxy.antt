@@ -1,15 +1,15 @@
 -- What a proxy can be asked for: RFC 9112, section 3.2.2.
-use Rattle.std.specs.Prelude.{◌≡◌, ◌⊎◌, ℕ, true, false, List, Some, None, IsSome, is_some}
+use Rattle.std.specs.Prelude.{◌≡◌, ◌⊎◌, ℕ, true, false, List, Option, Some, None, IsSome, is_some, string_bytes}
 use Rattle.std.specs.Option.{IsSomeAnd}
 use Rattle.uriparse.specs.SchemeValue.{Scheme}
 use Rattle.uriparse.specs.Host.{is_empty}
-use Rattle.uriparse.specs.HostWithin.{may_be_numeric}
-use Rattle.uriparse.specs.Reference.{Parts, Spells, host_of, username_of}
+use Rattle.uriparse.specs.Reference.{Parts, Spells, host_of, print, username_of}
 use Rattle.uriparse.specs.declared.uri.error.URIError.TheVariants as uris
 use Rattle.uriparse.specs.Kinds.{fault_of}
 use Rattle.uriparse.specs.Uri.{IsNamed, http, https, map_error}
 use Rattle.uriparse.specs.PathError.TheVariants.{OutOfMemory}
 use Rattle.uriparse.specs.Within.{IsWithin}
+use Rattle.examples.specs.Hosts.{IsPlainName}
 use Rattle.examples.specs.declared.proxy.ProxyError.{ProxyError}
 use Rattle.examples.specs.declared.proxy.ProxyError.TheVariants as errors
 
@@ -38,8 +38,8 @@ abbrev pub Refuses : List ℕ → ProxyError → Type 0
 Refuses t (errors.Text e) = (fault_of true map_error uris.NotURI t ≡ Some e) ⊎ (e ≡ uris.Path OutOfMemory)
 Refuses t e = (u : Parts) × Spells t u × IsReason u e
 
--- A request that may be forwarded: below the URI that is served, without user information, and to a host that no resolver takes for an address.
+-- A request that may be forwarded: below the URI that is served, without user information, and to a name, which readers take for no other host.
 pub record MayBeForwarded (served u : Parts) : Type 0 where
   pub below : IsWithin u served
   pub no_user : is_some (username_of u) ≡ false
-  pub host : IsSomeAnd (host_of u) (λ h. may_be_numeric h ≡ false)
+  pub host : IsSomeAnd (host_of u) IsPlainName

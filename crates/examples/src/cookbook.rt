@@ -39,7 +39,7 @@ pub fn strip_tracking(alloc: Global, uri: &mut URI<'_>) -> Result<(), URIError> 
 }
 
 /// Sets a URI's query to one pair, and removes its fragment. The words are data: all that a query can't
-/// have, and `&`, `=` and `+`, is percent-encoded.
+/// have, and `&`, `=`, `+` and `*`, is percent-encoded.
 ///
 /// ```
 /// let mut uri = URI::try_from_str(alloc, "http://h/find?old#top")?;

@@ -1,12 +1,13 @@
-//! Links that lead to one host, found in their texts.
+//! Links that lead to one host, found in their texts, and names that readers take for other hosts.
 //!
 //! ```
 //! let host = Host::try_from_str("example.com")?;
 //! assert!(leads_to("https://user@EXAMPLE.com:8080/a#b", &host));
 //! assert!(!leads_to("../a", &host) && !leads_to("https://example.com.evil.org/", &host));
 //! ```
-ghost use Rattle.std.specs.Prelude.{◌↔◌, IsTrue};
-ghost use Rattle.examples.specs.Hosts.{LeadsTo};
+ghost use Rattle.std.specs.Prelude.{◌≡◌, ◌↔◌, IsTrue};
+ghost use Rattle.examples.specs.Hosts as spec;
+ghost use Rattle.examples.specs.Hosts.{IsPlainName, LeadsTo};
 
 use uriparse::{Host, ReferenceView};
 
@@ -22,4 +23,26 @@ pub fn leads_to(link: &str, host: &Host<'_>) -> bool
         Some(there) => there == *host,
         None => false,
     }
+}
+
+/// Whether the host is a name that a reader may take for another host: it hides an address, resolvers may take it for one, or it has
+/// escapes, which some readers decode. Does not allocate.
+pub fn is_deceptive(host: &Host<'_>) -> bool
+    ensures { result ≡ spec.is_deceptive host.now }
+{
+    host.hides_address() || host.may_be_numeric() || host.has_escapes()
+}
+
+/// Whether the host is a name, which readers take for no other host. Does not allocate.
+///
+/// ```
+/// assert!(is_plain_name(&Host::try_from_str("www.example.com")?));
+/// assert!(!is_plain_name(&Host::try_from_str("127.0.0.1")?));
+/// assert!(!is_plain_name(&Host::try_from_str("0x7f.1")?));
+/// assert!(!is_plain_name(&Host::try_from_str("evil.org%2F.example.com")?));
+/// ```
+pub fn is_plain_name(host: &Host<'_>) -> bool
+    ensures { IsTrue result ↔ IsPlainName host.now }
+{
+    matches!(host, Host::RegisteredName(_)) && !is_deceptive(host)
 }

@@ -1,4 +1,4 @@
-//! The target of a request to a proxy: a web URI with a host. And whether the request may be forwarded.
+//! The target of a request to a proxy: a web URI with a host. And what of it is forwarded, if anything is.
 //!
 //! ```
 //! let target = proxy_target(alloc, "HTTP://example.com/a?b")?;
@@ -6,19 +6,21 @@
 //! let refused = proxy_target(alloc, "ftp://example.com/a");
 //! assert!(matches!(refused, Err(ProxyError::Scheme)));
 //! ```
-ghost use Rattle.std.specs.Prelude.{◌≡◌, ◌↔◌, IsTrue, IfOk, IfErr, MatchOption, MatchResult, Ok, false};
+ghost use Rattle.std.specs.Prelude.{◌≡◌, ◌↔◌, IsTrue, IfOk, IfErr, MatchOption, MatchResult, Ok, string_bytes};
 ghost use Rattle.std.specs.Option.{IsSomeAnd};
-ghost use Rattle.uriparse.specs.HostWithin.{may_be_numeric};
+ghost use Rattle.uriparse.specs.Normal.{normal};
 ghost use Rattle.uriparse.specs.Readings.{IsUnless};
 ghost use Rattle.uriparse.specs.PathError.TheVariants.{OutOfMemory};
-ghost use Rattle.uriparse.specs.Reference.{Parts, Spells, host_of};
+ghost use Rattle.uriparse.specs.Reference.{Parts, Spells, host_of, print};
 ghost use Rattle.uriparse.specs.declared.uri.error.URIError.TheVariants as uris;
 ghost use Rattle.examples.specs.declared.proxy.ProxyError.TheVariants as errors;
+ghost use Rattle.examples.specs.Hosts.{IsPlainName};
 ghost use Rattle.examples.specs.Proxy.{HasHost, IsProxyTarget, IsReason, IsWebScheme, MayBeForwarded, Refuses};
 
-use std::alloc::Global;
+use crate::hosts::is_plain_name;
+use std::alloc::{AllocError, Global};
 use thiserror::Error;
-use uriparse::{Scheme, URI, URIError};
+use uriparse::{ReferenceView, Scheme, URI, URIError, URIView};
 
 /// Why a text is not a proxy's target.
 #[derive(Debug, Drop, Error)]
@@ -95,29 +97,46 @@ fn has_host(uri: &URI<'_>) -> bool
     }
 }
 
-/// Whether the URI has a host, and no resolver takes it for an address.
-fn has_name(uri: &URI<'_>) -> bool
-    ensures { IsTrue result ↔ IsSomeAnd (host_of uri.now) (λ h. may_be_numeric h ≡ false) }
+/// Whether the reference has a host, which is a name that readers take for no other host.
+fn has_plain_name(view: &ReferenceView<'_>) -> bool
+    ensures { IsTrue result ↔ IsSomeAnd (host_of view.now.parts) IsPlainName }
 {
-    match uri.host() {
-        Some(host) => !host.may_be_numeric(),
+    match view.host() {
+        Some(host) => is_plain_name(&host),
         None => false,
     }
 }
 
-/// Whether a proxy may forward a request for this target: it is below the URI that the proxy serves, also where servers
-/// disagree on what `..;` and `%2f` mean; it has no user information, and its host doesn't look like an address. Does
-/// not allocate.
+/// Whether a proxy may forward a request for this target.
+fn is_forwarded(target: &URIView<'_>, served: &URIView<'_>) -> bool
+    ensures { IsTrue result ↔ MayBeForwarded served.now.parts target.now.parts }
+{
+    let view = target.as_reference_view();
+    target.is_within(served) && !view.has_username() && has_plain_name(view)
+}
+
+/// What a proxy forwards for this target: its normal form, if the target is below the URI that the proxy serves, also where servers
+/// disagree on what `..;` and `%2f` mean, has no user information, and its host is a name, which readers take for no other host.
+/// Otherwise `None`. The target itself isn't forwarded, since not every server takes `%2e%2e` for `..`. Allocates once.
 ///
 /// ```
-/// let served = URI::try_from_str(alloc, "http://example.com/app/")?;
-/// let target = URI::try_from_str(alloc, "http://example.com/app/a?b")?;
-/// assert!(may_be_forwarded(&target, &served));
-/// let target = URI::try_from_str(alloc, "http://example.com/app/..;/admin")?;
-/// assert!(!may_be_forwarded(&target, &served));
+/// let served = URIView::try_from_str("http://example.com/app/")?;
+/// let target = URIView::try_from_str("http://example.com:/app/x/%2e%2e/a?b")?;
+/// let forwarded = may_be_forwarded(alloc, &target, &served)?;
+/// assert_eq!(forwarded.unwrap().as_str(), "http://example.com/app/a?b");
+/// let target = URIView::try_from_str("http://example.com/app/..;/../a")?;
+/// assert!(may_be_forwarded(alloc, &target, &served)?.is_none());
 /// ```
-pub fn may_be_forwarded(target: &URI<'_>, served: &URI<'_>) -> bool
-    ensures { IsTrue result ↔ MayBeForwarded served.now target.now }
+pub fn may_be_forwarded(
+    alloc: Global,
+    target: &URIView<'_>,
+    served: &URIView<'_>,
+) -> Result<Option<String>, AllocError>
+    ensures { IfOk result (λ o. MatchOption o (MayBeForwarded served.now.parts target.now.parts → ⊥) (λ s. MayBeForwarded served.now.parts target.now.parts × (string_bytes s ≡ print (normal target.now.parts)))) }
 {
-    target.is_within(served) && !target.has_username() && has_name(target)
+    if is_forwarded(target, served) {
+        Ok(Some(target.normalize_to_string(alloc)?))
+    } else {
+        Ok(None)
+    }
 }

@@ -6,6 +6,7 @@ ghost use Rattle.uriparse.specs.Reference.{host_of};
 ghost use Rattle.uriparse.specs.Uri.{IsNamed, https};
 ghost use Rattle.examples.specs.Trusted.{IsTrusted, IsTrustedBelow, IsTrustedHost};
 
+use crate::hosts::is_deceptive;
 use uriparse::{Host, Scheme, URI};
 
 /// Whether the scheme is `https`.
@@ -15,11 +16,12 @@ fn is_https(scheme: &Scheme<'_>) -> bool
     scheme.eq_str("https")
 }
 
-/// Whether the host is one of the domains or within one, and no resolver takes it for an address.
+/// Whether the host is one of the domains or within one, and if it is a name, no reader takes it for another host. An address is trusted only
+/// if it is one of the list.
 fn is_trusted_host(host: &Host<'_>, domains: &[Host<'_>]) -> bool
     ensures { IsTrue result ↔ IsTrustedHost domains.now host.now }
 {
-    host.is_within_any(domains) && !host.may_be_numeric()
+    host.is_within_any(domains) && !is_deceptive(host)
 }
 
 /// Whether the URI has such a host.
@@ -33,7 +35,8 @@ fn has_trusted_host(uri: &URI<'_>, domains: &[Host<'_>]) -> bool
 }
 
 /// Whether a link leads over `https` to one of the domains or to a host within one, at the port of `https`
-/// and without user information. Does not allocate.
+/// and without user information. A name that a reader may take for another host is not trusted. Does not
+/// allocate.
 ///
 /// ```
 /// let domains = [Host::try_from_str("example.com")?];
@@ -48,13 +51,15 @@ pub fn is_trusted(uri: &URI<'_>, domains: &[Host<'_>]) -> bool
     ensures { IsTrue result ↔ IsTrusted domains.now uri.now }
 {
     is_https(uri.scheme())
+        && !uri.has_username()
         && has_trusted_host(uri, domains)
         && uri.port_or_default() == Some(443)
-        && !uri.has_username()
 }
 
 /// Whether a link [is trusted](is_trusted) and below a page: `..;` and `%2f` lead a proxy and the server behind it to
-/// different places, so a link with these in a segment is not. Does not allocate.
+/// different places, so a link with these in a segment after the directory, or in one that a `..` removes, is not.
+/// Follow its normal form, or the target of `resolve`, since not every server takes `%2e%2e` for `..`. Does not
+/// allocate.
 ///
 /// ```
 /// let domains = [Host::try_from_str("example.com")?];

@@ -8,7 +8,7 @@ ghost use Rattle.uriparse_authority.specs.Authority as authorities;
 ghost use Rattle.uriparse_authority.specs.Authority.{with_host, with_username};
 ghost use Rattle.uriparse_authority.specs.Host.{key, reading, text};
 ghost use Rattle.uriparse_authority.specs.Normal.{canonical_host};
-ghost use Rattle.uriparse_authority.specs.Within.{IsWithin};
+ghost use Rattle.uriparse_authority.specs.Within.{IsWithin, has_escapes as spec_has_escapes};
 ghost use Rattle.uriparse_authority.specs.Order.{authority_key_cmp, host_key_cmp};
 
 use std::alloc::{AllocError, Global};
@@ -58,6 +58,13 @@ pub fn is_within(host: &Host<'_>, domain: &Host<'_>) -> bool
     ensures { IsTrue result ↔ IsWithin host.now domain.now }
 {
     host.is_within(domain)
+}
+
+/// Whether a host is a name whose canonical spelling has an escape.
+pub fn has_escapes(host: &Host<'_>) -> bool
+    ensures { result ≡ spec_has_escapes host.now }
+{
+    host.has_escapes()
 }
 
 /// Sets an authority's user name, or takes it away, with the password.

@@ -21,7 +21,7 @@ ghost use Rattle.uri_commands.specs.Lines.{newline};
 ghost use Rattle.uri_commands.specs.declared.failure.Failure.TheVariants as failures;
 ghost use Rattle.uri_commands.specs.declared.failure.StreamError.{StreamError};
 
-mod laws;
+pub mod laws;
 
 use crate::failure::Failure;
 use crate::topic::Topic;

@@ -6,6 +6,7 @@ ghost use Rattle.uri_commands.specs.Options.{asked, column_of, is_plain, none, s
 ghost use Rattle.uri_commands.specs.Output as spec;
 ghost use Rattle.uri_commands.specs.declared.get.Part.TheVariants as part;
 
+pub use crate::json::laws::{examples_of_objects, one_object, one_string};
 use uriparse::laws::one_reading;
 
 /// A name and texts ask for the command of this name without options, if the name doesn't begin with `-`, and

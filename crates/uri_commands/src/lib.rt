@@ -22,7 +22,7 @@ mod get;
 mod help;
 pub mod internal;
 mod json;
-mod laws;
+pub mod laws;
 mod lines;
 mod normalize;
 mod options;

@@ -30,8 +30,12 @@ uri --lines within BASE
 The status says whether the URI is below the base, a URI too: scheme, host, port
 and user information are equal, and the path begins with the base's up to its
 last slash. Both are compared in normal form, without dot segments and default
-ports. A URI with a segment that servers may take for several, or for a dot
-segment, is below nothing: one with %2F, %5C, %25 or %00, or such as ..;a.
+ports. Hand on the normal form: not every server takes %2e%2e for two dots.
+
+The URI is not below the base if, after that slash, its path has a segment that
+servers may take for several, or for a dot segment: one with %2F, %5C, %25 or
+%00, or such as ..;a and ..%3Fa. Nor is it if a double dot of its path removes
+such a segment, or one that is empty, or empty before such a delimiter.
 
 With --lines prints each line whose URI is below the base, as grep does, and the
 status is 0 even if none is.
@@ -61,8 +65,9 @@ uri --lines host-within DOMAIN
 
 The status says whether the reference's host is the domain or under it: they are
 equal, or both are names, and the labels of the host end with those of the
-domain. Escapes, upper case and a dot at the end don't count. A reference
-without a host is under no domain, and so is an address other than itself.
+domain. Upper case, escapes of letters, and a dot at the end don't count. Only
+itself is under an address, or under a name with other escapes, such as %2F, and
+these are under nothing else. A reference without a host is under no domain.
 
 With --lines prints each line whose host is under the domain, as grep does, and
 the status is 0 even if none is.

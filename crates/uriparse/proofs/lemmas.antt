@@ -5,6 +5,7 @@ pub mod ViewLemmas
 pub mod WithinLemmas
 pub mod WithinLawLemmas
 pub mod WithinTargetLemmas
+pub mod WithinTestLemmas
 pub mod ChangeLawLemmas
 pub mod UnchangedLemmas
 pub mod ChangedPartLemmas

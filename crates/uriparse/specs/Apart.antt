@@ -1,5 +1,9 @@
 -- Changes of different components.
-use Rattle.std.specs.Prelude.{◌≡◌, ◌⊎◌, None}
+use Rattle.std.specs.Prelude.{◌≡◌, ◌⊎◌, ℕ, List, Option, None}
+use Rattle.std.specs.Option.{option_and_then, option_map}
+use Rattle.uriparse_reference.specs.Change.{changing}
+use Rattle.uriparse_reference.specs.Examples.{if_ok}
+use Rattle.uriparse_reference.specs.View.{Viewed}
 use Rattle.uriparse_reference.specs.Wanted.{Wanted, Wish}
 
 -- One of two changes keeps the component.
@@ -19,3 +23,13 @@ pub record AreApart (c d : Wanted) : Type 0 where
   pub port : OneKeeps c.port d.port
   pub query : OneKeeps c.query d.query
   pub fragment : OneKeeps c.fragment d.fragment
+
+-- ---- changes of a text: words of examples
+
+-- the text with its components changed, if the change is accepted
+abbrev pub changed_text : Wanted → List ℕ → Option (List ℕ)
+changed_text c t = option_map (λ (v : Viewed). v.text) (if_ok (changing c t))
+
+-- the text changed twice
+abbrev pub changed_twice : Wanted → Wanted → List ℕ → Option (List ℕ)
+changed_twice c d t = option_and_then (changed_text d) (changed_text c t)

@@ -15,7 +15,7 @@ ghost use Rattle.uriparse_reference.specs.Edits.{of_parts};
 ghost use Rattle.uriparse_reference.specs.Ports.{without_default_port};
 ghost use Rattle.uriparse_reference.specs.Normal.{normal};
 ghost use Rattle.uriparse_reference.specs.Reference.{Parts, Same, Spells, Valid, host_of, print};
-ghost use Rattle.uriparse.specs.Apart.{AreApart};
+ghost use Rattle.uriparse.specs.Apart.{AreApart, changed_text, changed_twice};
 ghost use Rattle.uriparse.specs.File.{file_uri, path_named, path_of_uri, uri_of_path};
 ghost use Rattle.uriparse.specs.declared.file.error.FileError.TheVariants as errors;
 ghost use Rattle.uriparse.specs.Kinds.{IsOfKind, with_mapped_error};
@@ -29,19 +29,26 @@ ghost use Rattle.uriparse_authority.specs.declared.authority.host.Host.{Host};
 ghost use Rattle.uriparse_scheme.specs.Scheme as scheme;
 ghost use Rattle.uriparse.specs.RelativeReference as relative;
 ghost use Rattle.uriparse.specs.Uri as uri;
-ghost use Rattle.uriparse.specs.Within.{IsWithin};
+ghost use Rattle.uriparse.specs.Within.{IsWithin, is_within, shown_within, target_within};
 ghost use Rattle.uriparse_path.specs.Dots.{all_but_last, is_double_dot};
 ghost use Rattle.uriparse_path.specs.Normal.{pnormal};
 ghost use Rattle.uriparse_path.specs.Path as path;
 ghost use Rattle.uriparse_path.specs.Relative.{is_last};
-ghost use Rattle.uriparse_path.specs.Within.{between_slashes, has_ambiguous};
+ghost use Rattle.uriparse_path.specs.Within.{between_slashes, has_ambiguous, removes_unclear};
 ghost use Rattle.uriparse_reference.specs.Target.{is_empty, is_merged, target};
 
+pub use uriparse_authority::laws::within_domains;
+pub use uriparse_path::laws::{fewest_double_dots, one_check_of_segments};
 pub use uriparse_reference::laws::{
     equal_in_equal_out, faults_of_reading, normalising_commutes, one_build, one_cut,
     one_default_port, one_edit, one_escaping, one_key, one_merge, one_normal_form,
     one_offset_of_fault, one_reading, one_relative, one_run, one_target, order_of_references,
     reading_back, reading_what_is_written,
+};
+pub use uriparse_text::laws::{
+    exact_address_readings, no_pair_of_a_name, no_pair_of_several_names, one_address,
+    one_canonical_spelling, one_encoding, one_link, one_list_of_pairs, one_order_of_pairs,
+    one_pair_found, one_pair_of_a_name,
 };
 
 /// The components of a URI build it again, passed to `from_parts` or held by a builder.
@@ -74,18 +81,65 @@ pub fn one_origin()
 {}
 
 /// Being below a URI: each URI is below itself, if the last segment of its path's normal form is not
-/// ambiguous, and below what a URI that it is below is below. Two URIs of which each is below the
-/// other have the same directory. A URI and its normal form are below the same URIs, and the same
-/// URIs are below them; and so it is with equal URIs.
+/// ambiguous and no `..` in its path removes a segment on which readers disagree, and below what a URI
+/// that it is below is below. Two URIs of which each is below the other have the same directory. The
+/// normal form of a URI is below what the URI is below; the URI is below what its normal form is
+/// below, if no `..` removes such a segment. The same URIs are below a URI and its normal form. Equal
+/// URIs are below the same URIs, and the same URIs are below them. The test computes it.
 pub fn within_uris()
-    ensures itself { (p : Parts) (front : List (List ℕ)) (last : List ℕ) → between_slashes (pnormal p.path false) ≡ front ++ last ∷ [] → is_ambiguous last ≡ false → IsWithin p p }
+    ensures itself { (p : Parts) (front : List (List ℕ)) (last : List ℕ) → between_slashes (pnormal p.path false) ≡ front ++ last ∷ [] → is_ambiguous last ≡ false → removes_unclear p.path ≡ false → IsWithin p p }
     ensures again { (p q r : Parts) → IsWithin p q → IsWithin q r → IsWithin p r }
     ensures directories { (p b : Parts) → IsWithin p b → IsWithin b p → all_but_last (between_slashes (pnormal p.path false)) ≡ all_but_last (between_slashes (pnormal b.path false)) }
-    ensures normal { (p b : Parts) → Valid p → IsOfKind true p → IsWithin p b ↔ IsWithin (normal p) b }
+    ensures normal { (p b : Parts) → Valid p → IsOfKind true p → IsWithin p b → IsWithin (normal p) b }
+    ensures normal_back { (p b : Parts) → Valid p → IsOfKind true p → removes_unclear p.path ≡ false → IsWithin (normal p) b → IsWithin p b }
     ensures normal_base { (p b : Parts) → Valid b → IsOfKind true b → IsWithin p b ↔ IsWithin p (normal b) }
     ensures target { (b r t : Parts) → Valid b → Valid r → is_merged r ≡ true → is_last is_double_dot b.path.segments ≡ false → 1 < length (between_slashes (pnormal b.path false)) → list_any is_double_dot (pnormal r.path true).segments ≡ false → has_ambiguous (pnormal r.path true).segments ≡ false → target b r ≡ Some t → IsWithin t b }
-    ensures own { (b r t : Parts) (front : List (List ℕ)) (last : List ℕ) → Valid b → r.scheme ≡ None → r.authority ≡ None → is_empty (path.text r.path) ≡ true → between_slashes (pnormal b.path false) ≡ front ++ last ∷ [] → is_ambiguous last ≡ false → target b r ≡ Some t → IsWithin t b }
+    ensures own { (b r t : Parts) (front : List (List ℕ)) (last : List ℕ) → Valid b → r.scheme ≡ None → r.authority ≡ None → is_empty (path.text r.path) ≡ true → between_slashes (pnormal b.path false) ≡ front ++ last ∷ [] → is_ambiguous last ≡ false → removes_unclear b.path ≡ false → target b r ≡ Some t → IsWithin t b }
     ensures equals { (p q b c : Parts) → Valid p → Valid q → Valid b → Valid c → IsOfKind true p → IsOfKind true q → IsOfKind true b → IsOfKind true c → Same p q → Same b c → IsWithin p b → IsWithin q c }
+    ensures tested { (p b : Parts) → (is_within p b ≡ true) ↔ IsWithin p b }
+{}
+
+/// URIs below another one, and URIs that only look so.
+pub fn examples_below()
+    ensures below { shown_within (codes "HTTPS://EXAMPLE.com:443/x/../app/a?b#c") (codes "https://example.com/app/") ≡ Some true }
+    ensures directory { shown_within (codes "https://example.com/app/") (codes "https://example.com/app/") ≡ Some true }
+    ensures longer_name { shown_within (codes "https://example.com/appX") (codes "https://example.com/app/") ≡ Some false }
+    ensures no_slash { shown_within (codes "https://example.com/app") (codes "https://example.com/app/") ≡ Some false }
+    ensures up { shown_within (codes "https://example.com/app/%2e%2e/admin") (codes "https://example.com/app/") ≡ Some false }
+    ensures other_scheme { shown_within (codes "http://example.com/app/a") (codes "https://example.com/app/") ≡ Some false }
+    ensures other_host { shown_within (codes "https://example.org/app/a") (codes "https://example.com/app/") ≡ Some false }
+    ensures other_port { shown_within (codes "https://example.com:8443/app/a") (codes "https://example.com/app/") ≡ Some false }
+    ensures user { shown_within (codes "https://u@example.com/app/a") (codes "https://example.com/app/") ≡ Some false }
+    ensures ambiguous { shown_within (codes "https://example.com/app/..;/admin") (codes "https://example.com/app/") ≡ Some false }
+    ensures escaped_end { shown_within (codes "https://example.com/app/..%3B/admin") (codes "https://example.com/app/") ≡ Some false }
+    ensures removed_dots { shown_within (codes "https://example.com/app/..;/../a") (codes "https://example.com/app/") ≡ Some false }
+    ensures removed_later { shown_within (codes "https://example.com/app/x/..;/../admin") (codes "https://example.com/app/") ≡ Some false }
+    ensures removed_escape { shown_within (codes "https://example.com/app/..%2fadmin%2fx/../") (codes "https://example.com/app/") ≡ Some false }
+    ensures removed_slash { shown_within (codes "https://example.com/app/%2f../../admin") (codes "https://example.com/app/") ≡ Some false }
+    ensures removed_empty { shown_within (codes "https://example.com/app//../admin") (codes "https://example.com/app/") ≡ Some false }
+    ensures removed_plain { shown_within (codes "https://example.com/app/x/../a") (codes "https://example.com/app/") ≡ Some true }
+    ensures kept_empty { shown_within (codes "https://example.com/app//a") (codes "https://example.com/app/") ≡ Some true }
+    ensures file_of_base { shown_within (codes "https://example.com/app/b") (codes "https://example.com/app/index") ≡ Some true }
+    ensures no_slash_itself { shown_within (codes "mailto:a@b") (codes "mailto:%61@b") ≡ Some true }
+    ensures no_slash_other { shown_within (codes "urn:x") (codes "urn:a:b") ≡ Some false }
+{}
+
+/// URIs and references that show what the laws of being below need: a last segment and removed segments
+/// that are plain, a base with a slash that doesn't end in `..`, and a reference without `..` and
+/// ambiguous segments.
+pub fn limits_of_below()
+    ensures ambiguous_itself { shown_within (codes "http://h/..;") (codes "http://h/..;") ≡ Some false }
+    ensures unclear_itself { shown_within (codes "http://h/a//..") (codes "http://h/a//..") ≡ Some false }
+    ensures unclear { shown_within (codes "http://h/a//../b") (codes "http://h/a/") ≡ Some false }
+    ensures unclear_normal { shown_within (codes "http://h/a/b") (codes "http://h/a/") ≡ Some true }
+    ensures relative_path { target_within (codes "http://h/a/b") (codes "c") ≡ Some true }
+    ensures double_dot_in_base { target_within (codes "http://h/.;q/..") (codes "x") ≡ Some false }
+    ensures no_slash_in_base { target_within (codes "s:b") (codes "a") ≡ Some false }
+    ensures double_dot { target_within (codes "http://h/a/b") (codes "../c") ≡ Some false }
+    ensures ambiguous_segment { target_within (codes "http://h/a/b") (codes "..;") ≡ Some false }
+    ensures no_path { target_within (codes "http://h/a/b") (codes "?q") ≡ Some true }
+    ensures no_path_ambiguous { target_within (codes "http://h/..;") (codes "?q") ≡ Some false }
+    ensures no_path_unclear { target_within (codes "http://h/a//..") (codes "#f") ≡ Some false }
 {}
 
 /// A change that keeps every component changes nothing, and making a change again changes nothing
@@ -114,6 +168,22 @@ pub fn one_change()
     ensures again { (c : Wanted) (t : List ℕ) (v : Viewed) → changing c t ≡ Ok v → changing c v.text ≡ Ok v }
     ensures commuting { (c d : Wanted) (t : List ℕ) (u v w x : Viewed) → AreApart c d → changing c t ≡ Ok u → changing d u.text ≡ Ok v → changing d t ≡ Ok w → changing c w.text ≡ Ok x → v ≡ x }
     ensures twice { (c d : Wanted) (t : List ℕ) (v w : Viewed) → changing c t ≡ Ok v → changing d v.text ≡ Ok w → query_text w.text ≡ changed d.query (changed c.query (query_text t)) }
+{}
+
+/// Strings before and after changes. The last two pairs show why a removed host and the path, and a removed
+/// user name and the password, count as one component for two changes in either order.
+pub fn examples_of_changes()
+    ensures host { changed_text (record unchanged { host = Some (Some (codes "h2")) }) (codes "HTTP://u@h:8/%7e?q#f") ≡ Some (codes "HTTP://u@h2:8/%7e?q#f") }
+    ensures query { changed_text (record unchanged { query = Some (Some (codes "a=1")) }) (codes "b#f") ≡ Some (codes "b?a=1#f") }
+    ensures no_fragment { changed_text (record unchanged { fragment = Some None }) (codes "b?q#f") ≡ Some (codes "b?q") }
+    ensures port { changed_text (record unchanged { port = Some (Some (codes "080")) }) (codes "//h/a") ≡ Some (codes "//h:080/a") }
+    ensures path_after_a_new_host { changed_text (record unchanged { host = Some (Some (codes "h")) }) (codes "a") ≡ Some (codes "//h/a") }
+    ensures wrong_host { changed_text (record unchanged { host = Some (Some (codes "a/b")) }) (codes "//h") ≡ None }
+    ensures port_without_a_host { changed_text (record unchanged { port = Some (Some (codes "1")) }) (codes "a") ≡ None }
+    ensures host_then_path { changed_twice (record unchanged { host = Some None }) (record unchanged { path = Some (Some []) }) (codes "//h/x") ≡ Some [] }
+    ensures path_then_host { changed_twice (record unchanged { path = Some (Some []) }) (record unchanged { host = Some None }) (codes "//h/x") ≡ Some (codes "/") }
+    ensures username_then_password { changed_twice (record unchanged { username = Some None }) (record unchanged { password = Some (Some (codes "q")) }) (codes "//u:p@h") ≡ Some (codes "//:q@h") }
+    ensures password_then_username { changed_twice (record unchanged { password = Some (Some (codes "q")) }) (record unchanged { username = Some None }) (codes "//u:p@h") ≡ Some (codes "//h") }
 {}
 
 /// Origins: of one spelling each, and of URIs that have none.

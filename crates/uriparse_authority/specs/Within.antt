@@ -1,9 +1,9 @@
 -- Hosts within domains, and names that are taken for addresses: RFC 1034, section 3.1, RFC 1123, section 2.1, and RFC 3986, section 7.4.
-use Rattle.std.specs.Prelude.{◌≡◌, ◌⊎◌, ℕ, ◌<◌, ◌==◌, ◌&&◌, ◌||◌, not, Bool, true, false, List, [], ◌∷◌, ◌++◌, length, is_some, if◌then◌else◌}
+use Rattle.std.specs.Prelude.{◌≡◌, ◌⊎◌, ℕ, ◌<◌, ◌==◌, ◌&&◌, not, Bool, true, false, List, [], ◌∷◌, ◌++◌, length, is_some, if◌then◌else◌}
 use Rattle.std.specs.Char.{is_digit}
 use Rattle.std.specs.List.{list_all, list_any, slice_split}
 use Rattle.uriparse_text.specs.Address.{ipv4_reading}
-use Rattle.uriparse_text.specs.Bytes.{dot}
+use Rattle.uriparse_text.specs.Bytes.{dot, percent}
 use Rattle.uriparse_text.specs.Canonical.{canonical_lowered}
 use Rattle.uriparse_authority.specs.Host.{Kind, canonical_text, key, kind}
 use Rattle.uriparse_authority.specs.declared.authority.host.Host.{Host}
@@ -34,10 +34,19 @@ has_empty_label t = list_any is_empty (labels t)
 abbrev pub is_address : List ℕ → Bool
 is_address t = is_some (ipv4_reading t)
 
--- The labels of a name end with all labels of a domain. No label of the name is empty, and neither is an address without the dot at its end.
--- Both are in canonical spelling.
+abbrev pub is_percent : ℕ → Bool
+is_percent b = b == percent
+
+-- the canonical spelling has an escape
+abbrev pub has_escape : List ℕ → Bool
+has_escape t = list_any is_percent t
+
+-- The labels of a name end with all labels of a domain. No label of the name is empty, neither has an escape, and neither is an address without
+-- the dot at its end. Both are in canonical spelling.
 pub record IsNameWithin (name domain : List ℕ) : Type 0 where
   pub full : has_empty_label name ≡ false
+  pub unescaped : has_escape name ≡ false
+  pub unescaped_domain : has_escape domain ≡ false
   pub plain : is_address (without_end_dot name) ≡ false
   pub plain_domain : is_address (without_end_dot domain) ≡ false
   pub ends : (front : List (List ℕ)) × (labels name ≡ front ++ labels domain)
@@ -73,26 +82,28 @@ may_be_numeric (IPv6Address a) = false
 may_be_numeric (IPvFuture f) = false
 may_be_numeric (RegisteredName n) = begins_with_digit (last_label (labels (canonical_lowered n)))
 
+-- a name whose canonical spelling has an escape
+abbrev pub has_escapes : Host → Bool
+has_escapes (IPv4Address a) = false
+has_escapes (IPv6Address a) = false
+has_escapes (IPvFuture f) = false
+has_escapes (RegisteredName n) = has_escape (canonical_lowered n)
+
 -- ---- words of private functions' clauses alone
 
--- The first of two names without dots at their ends has no empty label, and neither is an address.
+-- The first of two names without dots at their ends has no empty label, neither has an escape, and neither is an address.
 abbrev pub are_plain : List ℕ → List ℕ → Bool
-are_plain t u = not (list_any is_empty (slice_split is_dot t)) && (not (is_address t) && not (is_address u))
+are_plain t u =
+    not (list_any is_empty (slice_split is_dot t)) && (not (has_escape t) && (not (has_escape u) && (not (is_address t) && not (is_address u))))
 
--- "%2E", by its digits
-abbrev pub is_escaped_dot : ℕ → ℕ → Bool
-is_escaped_dot high low = high == 50 && (low == 69 || low == 101)
-
--- "%30" to "%39", by its digits
-abbrev pub is_escaped_digit : ℕ → ℕ → Bool
-is_escaped_digit high low = high == 51 && is_digit low 10
-
--- These bytes are a canonical token's. They are a dot if the octet is one, else they have none. They begin with a digit if the octet is one.
+-- These bytes are a canonical token's. They are a dot if the octet is one, else they have none. They begin with a digit if the octet is one, and
+-- they are an escape if it is "%".
 pub record HasOctet (octet : ℕ) (bytes : List ℕ) : Type 0 where
   pub some : 0 < length bytes
   pub single : is_dot octet ≡ true → bytes ≡ dot ∷ []
   pub others : is_dot octet ≡ false → list_all (λ b. not (is_dot b)) bytes ≡ true
   pub first : begins_with_digit bytes ≡ is_digit octet 10
+  pub escape : has_escape bytes ≡ is_percent octet
 
 -- The canonical spelling of a text is a token's with this octet, and then that of the rest.
 pub record BeginsWithOctet (octet : ℕ) (t rest : List ℕ) : Type 0 where

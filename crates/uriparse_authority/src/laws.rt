@@ -22,7 +22,7 @@ ghost use Rattle.uriparse_authority.specs.Port as port;
 ghost use Rattle.uriparse_authority.specs.Normal.{canonical_host, canonical_authority};
 ghost use Rattle.uriparse_authority.specs.Offset.{IsAtPercentIff, IsWrongByte, fault_offset};
 ghost use Rattle.uriparse_authority.specs.Authority.{AuthorityParts, Spells, Valid, ReadsBack, canonical_text, ends_authority, fault, fed, fed_key, host_text, joined, key, kind, password_text, port_text, print, reading, rest_error, username_text, whole_authority, whole_reading};
-ghost use Rattle.uriparse_authority.specs.Within.{EndsWithName, IsWithin, hides_address, labels, without_end_dot};
+ghost use Rattle.uriparse_authority.specs.Within.{EndsWithName, IsNameWithin, IsWithin, has_escapes, hides_address, labels, may_be_numeric, without_end_dot};
 
 /// Reading returns exactly what a text spells: a host, a name by itself, an address of a later
 /// version by itself, a port, an authority, and an authority that is the whole text. A text spells
@@ -176,8 +176,8 @@ pub fn normal_examples()
 
 /// Being within a domain: each host is within itself, and within what a domain that it is within is
 /// within. Equal hosts are within the same hosts, and the same hosts are within them. Two hosts are
-/// of one kind if one is within the other, and equal if one of them hides an address. The labels of
-/// a name end with those of each domain that it is within, and the bytes of its canonical spelling,
+/// of one kind if one is within the other, and equal if one of them hides an address or has escapes.
+/// The labels of a name end with those of each domain that it is within, and the bytes of its canonical spelling,
 /// apart from a dot at the end, with a dot and the domain's.
 pub fn within_domains()
     ensures itself { (h : Host) → IsWithin h h }
@@ -185,6 +185,45 @@ pub fn within_domains()
     ensures equals { (g h c d : Host) → host.key g ≡ host.key h → host.key c ≡ host.key d → IsWithin g c → IsWithin h d }
     ensures kinds { (h d : Host) → IsWithin h d → host.kind h ≡ host.kind d }
     ensures hidden { (h d : Host) → (hides_address h ≡ true) ⊎ (hides_address d ≡ true) → IsWithin h d → host.key h ≡ host.key d }
+    ensures escaped { (h d : Host) → (has_escapes h ≡ true) ⊎ (has_escapes d ≡ true) → IsWithin h d → host.key h ≡ host.key d }
     ensures labels { (h d : Host) → host.kind d ≡ host.Kind.Name → IsWithin h d → (front : List (List ℕ)) × (labels (host.canonical_text h) ≡ front ++ labels (host.canonical_text d)) }
     ensures bytes { (h d : Host) → IsWithin h d → (host.key h ≡ host.key d) ⊎ EndsWithName (without_end_dot (host.canonical_text h)) (without_end_dot (host.canonical_text d)) }
+{}
+
+/// Names within domains, and names that only look so. All are in canonical spelling.
+pub fn examples_of_names_within()
+    ensures below { IsNameWithin (codes "www.example.com") (codes "example.com") }
+    ensures itself { IsNameWithin (codes "example.com") (codes "example.com") }
+    ensures dot_at_the_end { IsNameWithin (codes "www.example.com.") (codes "example.com") }
+    ensures dot_after_the_domain { IsNameWithin (codes "www.example.com") (codes "example.com.") }
+    ensures sub_delimiter { IsNameWithin (codes "a;b.example.com") (codes "example.com") }
+    ensures no_dot { IsNameWithin (codes "evilexample.com") (codes "example.com") → ⊥ }
+    ensures in_front { IsNameWithin (codes "example.com.evil.org") (codes "example.com") → ⊥ }
+    ensures above { IsNameWithin (codes "com") (codes "example.com") → ⊥ }
+    ensures empty_label { IsNameWithin (codes "a..example.com") (codes "example.com") → ⊥ }
+    ensures empty_first_label { IsNameWithin (codes ".example.com") (codes "example.com") → ⊥ }
+    ensures address { IsNameWithin (codes "1.2.3.4") (codes "3.4") → ⊥ }
+    ensures escaped_slash { IsNameWithin (codes "evil.org%2F.example.com") (codes "example.com") → ⊥ }
+    ensures escaped_nul { IsNameWithin (codes "evil.org%00.example.com") (codes "example.com") → ⊥ }
+    ensures escaped_domain { IsNameWithin (codes "a.%2F.com") (codes "%2F.com") → ⊥ }
+{}
+
+/// Names that readers may take for something else: hidden addresses, numbers, names with escapes.
+#[tactic(auto, unfolding(uriparse_text::specs::Address::ipv4_reading, std::specs::Net::Reader::read_ipv4, std::specs::Net::Reader::read_octet, std::specs::Net::Reader::read_number, uriparse_text::specs::Canonical::canonical_in, uriparse_text::specs::Tokens::tokens, uriparse_text::specs::Bytes::is_unreserved))]
+pub fn examples_of_taken_names()
+    ensures hidden { hides_address (RegisteredName (codes "%31.2.3.4")) ≡ true }
+    ensures hidden_with_a_dot { hides_address (RegisteredName (codes "%31.2.3.4.")) ≡ false }
+    ensures not_hidden { hides_address (IPv4Address (1 ∷ 2 ∷ 3 ∷ 4 ∷ [])) ≡ false }
+    ensures number { may_be_numeric (RegisteredName (codes "2130706433")) ≡ true }
+    ensures hexadecimal { may_be_numeric (RegisteredName (codes "0x7f.1")) ≡ true }
+    ensures escaped_digit { may_be_numeric (RegisteredName (codes "127.%31")) ≡ true }
+    ensures dot_at_the_end { may_be_numeric (RegisteredName (codes "127.1.")) ≡ true }
+    ensures name { may_be_numeric (RegisteredName (codes "1.example.com")) ≡ false }
+    ensures address { may_be_numeric (IPv4Address (127 ∷ 0 ∷ 0 ∷ 1 ∷ [])) ≡ false }
+    ensures full_width { may_be_numeric (RegisteredName (codes "127.0.0.%EF%BC%91")) ≡ false }
+    ensures full_width_escapes { has_escapes (RegisteredName (codes "127.0.0.%EF%BC%91")) ≡ true }
+    ensures delimiter { has_escapes (RegisteredName (codes "evil.org%2f.example.com")) ≡ true }
+    ensures percent { has_escapes (RegisteredName (codes "a%2541")) ≡ true }
+    ensures unreserved { has_escapes (RegisteredName (codes "www.%65xample%2Ecom")) ≡ false }
+    ensures no_name { has_escapes (IPvFuture (codes "v1.a")) ≡ false }
 {}

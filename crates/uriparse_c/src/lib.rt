@@ -430,7 +430,7 @@ pub extern "C" fn uriparse_encode(
     // is too small.
     ensures written { (c : Class) → class_of component ≡ Some c → IsPut (encoded c bytes.now) out.old out.new needed.new result }
 
-    // Of the number of pairs, `&`, `=` and `+` become escapes, too.
+    // Of the number of pairs, `&`, `=`, `+` and `*` become escapes, too.
     ensures pair { component ≡ pair_number → IsPut (encoded_in_pair bytes.now) out.old out.new needed.new result }
 
     // Another number is rejected, and the buffer is kept.

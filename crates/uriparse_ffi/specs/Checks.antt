@@ -28,10 +28,10 @@ abbrev pub flag : ℕ → Bool → ℕ
 flag n true = n
 flag n false = 0
 
--- 1 for a name that hides an IPv4 address, and 2 for one that may be taken for a number
+-- 1 for a name that hides an IPv4 address, 2 for one that may be taken for a number, and 4 for one that has escapes
 abbrev pub host_flags : Option Host → ℕ
 host_flags None = 0
-host_flags (Some h) = flag 1 (host.hides_address h) + flag 2 (host.may_be_numeric h)
+host_flags (Some h) = flag 1 (host.hides_address h) + flag 2 (host.may_be_numeric h) + flag 4 (host.has_escapes h)
 
 -- the number of a port, or 0 if there is none
 abbrev pub port_number : Option ℕ → ℕ

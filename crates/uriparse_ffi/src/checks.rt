@@ -147,7 +147,8 @@ fn flags_of(host: Option<Host<'_>>) -> u32
     };
     let hides = if host.hides_address() { 1 } else { 0 };
     let numeric = if host.may_be_numeric() { 2 } else { 0 };
-    hides + numeric
+    let escaped = if host.has_escapes() { 4 } else { 0 };
+    hides + numeric + escaped
 }
 
 /// What the host of the reference that a text spells may be taken for, or the code of the text's error.

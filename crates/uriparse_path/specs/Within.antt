@@ -1,11 +1,11 @@
 -- Paths within the directory of another path: RFC 3986, sections 3.3 and 6.2.2.
-use Rattle.std.specs.Prelude.{◌≡◌, ℕ, ◌<◌, ◌≤◌, Bool, true, false, ◌||◌, if◌then◌else◌, List, [], ◌∷◌, ◌++◌, length, map, Option, Some, None}
+use Rattle.std.specs.Prelude.{◌≡◌, ℕ, zero, suc, ◌<◌, ◌≤◌, Bool, true, false, ◌||◌, if◌then◌else◌, List, [], ◌∷◌, ◌++◌, length, map, Option, Some, None, bytes_eq}
 use Rattle.std.specs.List.{list_any}
-use Rattle.uriparse_text.specs.Ambiguous.{is_ambiguous}
+use Rattle.uriparse_text.specs.Ambiguous.{is_ambiguous, name_of}
 use Rattle.uriparse_text.specs.Canonical.{canonical}
 use Rattle.uriparse_path.specs.Path.{PathParts, max_segments}
-use Rattle.uriparse_path.specs.Dots.{all_but_last}
-use Rattle.uriparse_path.specs.Remaining.{Remaining, process_all, remaining_of, with_end}
+use Rattle.uriparse_path.specs.Dots.{all_but_last, is_dot_segment}
+use Rattle.uriparse_path.specs.Remaining.{Remaining, nothing, process_all, remaining_of, with_end}
 use Rattle.uriparse_path.specs.declared.path.within.PassedDots.{PassedDots}
 
 -- a slash separates an empty text from the segments of an absolute path
@@ -31,6 +31,31 @@ pub record AreWithin (ss bs : List (List ℕ)) : Type 0 where
 -- The path, in normal form, is in the directory of the base's path, in normal form.
 abbrev pub IsPathWithin : PathParts → PathParts → Type 0
 IsPathWithin p b = AreWithin (between_slashes p) (between_slashes b)
+
+-- ---- segments that dot removal takes away with a ".."
+
+-- A segment before others, of which as many ".." wait for a segment to remove. One that waits removes it, unless it is a dot segment.
+abbrev pub onto_removed : List ℕ → ℕ → List (List ℕ) → List (List ℕ)
+onto_removed s zero removed = removed
+onto_removed s (suc n) removed = if is_dot_segment s then removed else s ∷ removed
+
+-- those of these segments that a ".." removes, before others of which this is left
+abbrev pub removed_from : Remaining → List (List ℕ) → List (List ℕ)
+removed_from l [] = []
+removed_from l (s ∷ ss) = onto_removed s (process_all ss l).double_dots (removed_from l ss)
+
+-- those of these segments that a ".." removes
+abbrev pub removed_segments : List (List ℕ) → List (List ℕ)
+removed_segments ss = removed_from nothing ss
+
+-- Readers disagree on whether the segment is one. It is ambiguous; or it is empty up to a first ";", "?" or "#", plain or escaped, so that it is
+-- empty for those that drop what follows, and some merge the slashes around an empty segment.
+abbrev pub is_unclear : List ℕ → Bool
+is_unclear s = is_ambiguous s || bytes_eq (name_of s) []
+
+-- a ".." in the path removes such a segment
+abbrev pub removes_unclear : PathParts → Bool
+removes_unclear p = list_any is_unclear (removed_segments (map canonical p.segments))
 
 -- ---- a path that is read from its end: words of private functions' clauses alone
 

@@ -1,8 +1,9 @@
 //! Laws of the definitions that contracts cite. Each function does nothing: its contract is the
 //! law.
-ghost use Rattle.std.specs.Prelude.{◌≡◌, ◌<◌, ◌≤◌, ◌↔◌, ◌∷◌, ℕ, List, Bool, None, Some, Ok, Err, codes, length, slice_get, take, true, false};
-ghost use Rattle.std.specs.List.{list_all, slice_split, join_with_byte};
+ghost use Rattle.std.specs.Prelude.{◌≡◌, ◌<◌, ◌≤◌, ◌↔◌, ◌∷◌, [], ℕ, List, Bool, None, Some, Ok, Err, codes, length, slice_get, take, true, false};
+ghost use Rattle.std.specs.List.{list_all, list_any, slice_split, join_with_byte};
 ghost use Rattle.std.specs.Option.{option_map};
+ghost use Rattle.uriparse_text.specs.Ambiguous.{is_ambiguous};
 ghost use Rattle.uriparse_text.specs.Bytes.{percent, slash};
 ghost use Rattle.uriparse_text.specs.Canonical.{canonical};
 ghost use Rattle.uriparse_text.specs.Segment.{is_segment};
@@ -10,13 +11,14 @@ ghost use Rattle.uriparse_path.specs.Path.{PathParts, IsListed, IsPath, max_segm
 ghost use Rattle.uriparse_path.specs.Faults.{PassesLimit, error_of, fault};
 ghost use Rattle.uriparse_text.specs.declared.segment.error.PathError.{PathError};
 ghost use Rattle.uriparse_path.specs.Offset.{fault_offset};
-ghost use Rattle.uriparse_path.specs.Dots.{has_dot_segment, Step, Undots, rooted_after, replayed, undot, without_dots};
+ghost use Rattle.uriparse_path.specs.Dots.{has_dot_segment, is_double_dot, Step, Undots, rooted_after, replayed, undot, without_dots};
 ghost use Rattle.uriparse_path.specs.Relative.{is_first, has_colon, Leads, IsIrreducible, IsRelNormal, reduced, relative_normal};
 ghost use Rattle.uriparse_path.specs.Edits.{cleared, popped, pushed, pushing};
 ghost use Rattle.uriparse_text.specs.Segment as segment;
 ghost use Rattle.uriparse_text.specs.declared.segment.error.PathError.TheVariants as errors;
 ghost use Rattle.uriparse_path.specs.Merge.{LeadsTo};
 ghost use Rattle.uriparse_path.specs.Relate.{double_dots_in, leading};
+ghost use Rattle.uriparse_path.specs.Within.{removed_segments, removes_unclear};
 ghost use Rattle.uriparse_path.specs.Normal.{canonical_path, pnormal, begins_with_double_dots, is_normal};
 
 use crate::path::MAX_SEGMENTS;
@@ -226,4 +228,46 @@ pub fn examples_of_edits()
     ensures escaped { pushing (spelled (codes "a")) (segment.reading (codes "%7e")) ≡ Ok (spelled (codes "a/%7e")) }
     ensures slash { pushing (spelled (codes "a")) (segment.reading (codes "a/b")) ≡ Err errors.InvalidCharacter }
     ensures broken_escape { pushing (spelled (codes "a")) (segment.reading (codes "%4")) ≡ Err errors.InvalidPercentEncoding }
+{}
+
+/// A segment is ambiguous exactly if its canonical spelling is. Without a `..` no segment is removed.
+pub fn one_check_of_segments()
+    ensures spelled { (s : List ℕ) → is_segment s ≡ true → is_ambiguous (canonical s) ≡ is_ambiguous s }
+    ensures kept { (ss : List (List ℕ)) → list_any is_double_dot ss ≡ false → removed_segments ss ≡ [] }
+{}
+
+/// The segments that `..` remove: the last one that is left before each, but no dot segment and
+/// nothing above the root. Dots may be escaped.
+#[tactic(auto, unfolding(crate::specs::Dots::is_single_dot, crate::specs::Dots::is_double_dot, uriparse_text::specs::Ambiguous::is_ambiguous, uriparse_text::specs::Coding::decoded, uriparse_text::specs::Canonical::canonical_in, uriparse_text::specs::Tokens::tokens, uriparse_text::specs::Bytes::is_unreserved))]
+pub fn examples_of_removed_segments()
+    ensures one { removed_segments (spelled (codes "/a/b/../c")).segments ≡ codes "b" ∷ [] }
+    ensures two { removed_segments (spelled (codes "/a/b/c/../../d")).segments ≡ codes "b" ∷ codes "c" ∷ [] }
+    ensures apart { removed_segments (spelled (codes "/a/../b/c/..")).segments ≡ codes "a" ∷ codes "c" ∷ [] }
+    ensures single_dots { removed_segments (spelled (codes "/a/b/./.././c")).segments ≡ codes "b" ∷ [] }
+    ensures above_the_root { removed_segments (spelled (codes "/../a")).segments ≡ [] }
+    ensures kept { removed_segments (spelled (codes "/a/./b/")).segments ≡ [] }
+    ensures empty { removed_segments (spelled (codes "/a//../b")).segments ≡ [] ∷ [] }
+    ensures escaped { removed_segments (spelled (codes "/a/b/%2e%2E/c")).segments ≡ codes "b" ∷ [] }
+    ensures relative { removed_segments (spelled (codes "a/../../b")).segments ≡ codes "a" ∷ [] }
+    ensures dots_with_parameters { removed_segments (spelled (codes "/a/..;/../b")).segments ≡ codes "..;" ∷ [] }
+{}
+
+/// Paths of which a `..` removes a segment on which readers disagree, and paths of which none does.
+#[tactic(auto, unfolding(crate::specs::Dots::is_single_dot, crate::specs::Dots::is_double_dot, uriparse_text::specs::Ambiguous::is_ambiguous, uriparse_text::specs::Coding::decoded, uriparse_text::specs::Canonical::canonical_in, uriparse_text::specs::Tokens::tokens, uriparse_text::specs::Bytes::is_unreserved))]
+pub fn examples_of_unclear_removals()
+    ensures dots_with_parameters { removes_unclear (spelled (codes "/app/..;/../a")) ≡ true }
+    ensures after_a_plain_one { removes_unclear (spelled (codes "/app/x/..;/../admin")) ≡ true }
+    ensures with_a_plain_one { removes_unclear (spelled (codes "/app/%2f../../admin")) ≡ true }
+    ensures encoded_slash { removes_unclear (spelled (codes "/app/..%2fadmin%2fx/../")) ≡ true }
+    ensures empty { removes_unclear (spelled (codes "/app//../admin")) ≡ true }
+    ensures no_name { removes_unclear (spelled (codes "/app/;x/../admin")) ≡ true }
+    ensures escaped_end { removes_unclear (spelled (codes "/app/%3Bx/../admin")) ≡ true }
+    ensures dots_with_an_escaped_end { removes_unclear (spelled (codes "/app/..%3f/../a")) ≡ true }
+    ensures escaped_dots { removes_unclear (spelled (codes "/app//%2e%2E/admin")) ≡ true }
+    ensures early { removes_unclear (spelled (codes "//../app/a")) ≡ true }
+    ensures kept { removes_unclear (spelled (codes "/app/..;/a")) ≡ false }
+    ensures kept_empty { removes_unclear (spelled (codes "/app//a/../b")) ≡ false }
+    ensures plain { removes_unclear (spelled (codes "/app/x/../a")) ≡ false }
+    ensures parameters { removes_unclear (spelled (codes "/app/x;y/../a")) ≡ false }
+    ensures single_dot { removes_unclear (spelled (codes "/app/x//./a")) ≡ false }
 {}

@@ -131,9 +131,10 @@ decoded_pair p = (decoded p.0, option_map decoded p.1)
 abbrev pub form_decoded_pair : Pair → Pair
 form_decoded_pair p = (form_decoded p.0, option_map form_decoded p.1)
 
--- The text that stands for the bytes of a name or a value. A "+" is escaped, since forms read it as a space.
+-- The text that stands for the bytes of a name or a value. A "+" is escaped, since forms read it as a space, and a "*", since at the end of a
+-- name to leave out it stands for any bytes.
 abbrev pub encoded_in_pair : List ℕ → List ℕ
-encoded_in_pair bytes = encoded_without Query (codes "&=+") bytes
+encoded_in_pair bytes = encoded_without Query (codes "&=+*") bytes
 
 abbrev pub encoded_pair : Pair → Pair
 encoded_pair p = (encoded_in_pair p.0, option_map encoded_in_pair p.1)

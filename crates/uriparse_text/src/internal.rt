@@ -24,12 +24,12 @@ mod token;
 pub use crate::address::printed::{prepend_decimal, prepend_ipv4, prepend_ipv6};
 pub use crate::query::find::{Among, Named, PairTest, find_pair};
 pub use crate::query::put::{Appended, Appending, InPair, WithPair, Without, write_text};
-pub use ambiguous::has_ambiguous_escape;
+pub use ambiguous::{has_ambiguous_escape, has_dots_before_end, lacks_name};
 pub use backward_buffer::{Form, prepend, prepend_following, prepend_formed};
 pub use bits::{bits_below, count_below, highest, lowest, without, without_lowest};
 pub use canonical::{canonical_bytes, feed_spelling, feed_text, is_canonical};
 pub use canonical_prefix::{check_bytes, split_canonical_prefix};
-pub use class::{Class, Outside, offset_of_fault};
+pub use class::{Class, Outside, is_unreserved, offset_of_fault};
 pub use coding::{
     compare_represented, form_decoded_bytes, most_escaped_bytes, push_encoded, push_escaped,
     represents, represents_prefix,
@@ -45,4 +45,4 @@ pub use split::{split_at_delimiter, without_delimiter};
 pub use text::{
     Text, TextKind, checked_text, len_of, normalized_text, text_from_checked, text_from_checked_vec,
 };
-pub use token::{Case, is_escape};
+pub use token::{Case, is_escape, octet_of};

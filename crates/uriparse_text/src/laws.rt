@@ -1,6 +1,6 @@
 //! Laws of the definitions that contracts cite. Each function does nothing: its contract is the
 //! law.
-ghost use Rattle.std.specs.Prelude.{◌≡◌, ◌==◌, ◌↔◌, ◌<◌, ◌∷◌, ◌++◌, ℕ, List, [], Result, Ok, Err, Some, None, true, false, flat_map, length, map, not, codes, drop, take, slice_get};
+ghost use Rattle.std.specs.Prelude.{◌≡◌, ◌==◌, ◌↔◌, ◌<◌, ◌∷◌, ◌++◌, ℕ, List, [], Option, Result, Ok, Err, Some, None, true, false, flat_map, length, map, not, codes, drop, take, slice_get};
 ghost use Rattle.std.specs.Char.{is_ascii_whitespace};
 ghost use Rattle.std.specs.List.{ends_with, filter, find, list_all, list_any};
 ghost use Rattle.std.specs.List.Sorted.{IsPermutation, IsSortedBy};
@@ -9,6 +9,7 @@ ghost use Rattle.uriparse_text.specs.declared.internal.class.Class.{Class};
 ghost use Rattle.uriparse_text.specs.declared.internal.class.Class.TheVariants as class;
 ghost use Rattle.uriparse_text.specs.declared.internal.token.Case.{Case};
 ghost use Rattle.uriparse_text.specs.declared.internal.token.Case.TheVariants as case;
+ghost use Rattle.uriparse_text.specs.Ambiguous.{is_ambiguous};
 ghost use Rattle.uriparse_text.specs.Bytes.{asterisk, is_among, left_bracket, right_bracket};
 ghost use Rattle.uriparse_text.specs.Tokens.{is_well_formed, spell, IsConcatenation};
 ghost use Rattle.uriparse_text.specs.Faults.{fault, IsIn, IsOfClass, HasFaultAt};
@@ -170,11 +171,13 @@ pub fn one_pair_found()
 {}
 
 /// Once the pairs of some names are left out, there is none of these names, and leaving them out again
-/// changes nothing. One name that doesn't end in `*` leaves out the pairs of that name alone.
+/// changes nothing. One name that doesn't end in `*` leaves out the pairs of that name alone, and so
+/// does one that is encoded for a pair, whatever its bytes are.
 pub fn no_pair_of_several_names()
     ensures none { (names ps : List Pair) → filter (is_among_names names) (without_names names ps) ≡ [] }
     ensures twice { (names ps : List Pair) → without_names names (without_names names ps) ≡ without_names names ps }
     ensures one { (n : Pair) (ps : List Pair) → ends_with (λ b c. b == c) n.0 (asterisk ∷ []) ≡ false → without_names (n ∷ []) ps ≡ without_name (decoded n.0) ps }
+    ensures encoded { (name : List ℕ) (o : Option (List ℕ)) (ps : List Pair) → are_bytes name ≡ true → without_names ((encoded_in_pair name, o) ∷ []) ps ≡ without_name name ps }
 {}
 
 /// What is written to a buffer, and what is reported, is determined by the text and the buffer.
@@ -222,6 +225,7 @@ pub fn examples_of_pairs()
     ensures appended_alone { with_appended (codes "a", None) (pairs []) ≡ pairs (codes "a") }
     ensures appended_at_end { with_appended (codes "b", Some []) (pairs (codes "a=1&&")) ≡ pairs (codes "a=1&&b=") }
     ensures without_names { without_names (pairs (codes "utm_*&gclid=1")) (pairs (codes "%75tm_id=1&q=b%20c&gclid&utm&z")) ≡ pairs (codes "q=b%20c&utm&z") }
+    ensures encoded_star { without_names (pairs (encoded_in_pair (codes "a*"))) (pairs (codes "a*&ab&%61%2a=1")) ≡ pairs (codes "ab") }
     ensures escaped_star { without_names (pairs (codes "a%2A")) (pairs (codes "a*&ab&%61%2a=1")) ≡ pairs (codes "ab") }
     ensures escaped_prefix { without_names (pairs (codes "%75*=v")) (pairs (codes "u&%75b=1&v=u")) ≡ pairs (codes "v=u") }
     ensures no_name { without_names (pairs []) (pairs (codes "a&=1&")) ≡ pairs (codes "a") }
@@ -287,4 +291,27 @@ pub fn examples_of_texts()
     ensures slash { fault class.Segment (codes "a/b") ≡ Some 47 }
     ensures at_sign { fault class.UserInfo (codes "a:@") ≡ Some 64 }
     ensures colon { fault class.Name (codes "a:") ≡ Some 58 }
+{}
+
+/// Segments that servers may take for others: by an escape, also one that is encoded twice, or by dots
+/// before a `;` or the escape of what may end a segment. The last ones are plain.
+#[tactic(auto, unfolding(crate::specs::Ambiguous::is_ambiguous, crate::specs::Coding::decoded, crate::specs::Tokens::tokens))]
+pub fn examples_of_ambiguous_segments()
+    ensures slash { is_ambiguous (codes "a%2fb") ≡ true }
+    ensures backslash { is_ambiguous (codes "a%5Cb") ≡ true }
+    ensures escape { is_ambiguous (codes "a%252Fb") ≡ true }
+    ensures nul { is_ambiguous (codes "a%00") ≡ true }
+    ensures climbing { is_ambiguous (codes "..%2Fb") ≡ true }
+    ensures parameters { is_ambiguous (codes "..;x=1") ≡ true }
+    ensures no_parameters { is_ambiguous (codes ".;") ≡ true }
+    ensures escaped_dots { is_ambiguous (codes "%2e.;a;b") ≡ true }
+    ensures dots { is_ambiguous (codes "..") ≡ false }
+    ensures three_dots { is_ambiguous (codes "...;x") ≡ false }
+    ensures named { is_ambiguous (codes "a..;x") ≡ false }
+    ensures escaped_semicolon { is_ambiguous (codes "..%3Bx") ≡ true }
+    ensures escaped_question_mark { is_ambiguous (codes "..%3F") ≡ true }
+    ensures escaped_number_sign { is_ambiguous (codes ".%23a") ≡ true }
+    ensures other_escape { is_ambiguous (codes "a%20%C3%A9") ≡ false }
+    ensures empty { is_ambiguous [] ≡ false }
+    ensures empty_name { is_ambiguous (codes ";x") ≡ false }
 {}

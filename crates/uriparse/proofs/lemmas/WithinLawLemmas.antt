@@ -1,8 +1,9 @@
 -- Laws of URIs below other URIs.
-use Rattle.std.proofs.Common.{◌≡◌, ◌↔◌, ℕ, ◌<◌, suc, true, false, List, [], ◌∷◌, ◌++◌, length, Option, Some, None, refl, sym, ap, subst, ◌∙◌, arith, append_assoc, append-nil}
+use Rattle.std.proofs.Common.{◌≡◌, ◌↔◌, ℕ, ◌<◌, suc, true, false, List, [], ◌∷◌, ◌++◌, length, map, Bool, cond, Option, Some, None, refl, sym, ap, subst, ◌∙◌, arith, append_assoc, append-nil}
 use Rattle.std.specs.Prelude.{IfSome, is_none, is_some}
 use Rattle.std.specs.Option.{option_map, option_or, option_and_then}
-use Rattle.std.proofs.lemmas.Bool.{or_from, or_parts}
+use Rattle.std.specs.List.{list_all, list_any}
+use Rattle.std.proofs.lemmas.Bool.{false≢true, or_from, or_parts}
 use Rattle.std.proofs.lemmas.List.{length-append}
 use Rattle.std.proofs.lemmas.List.Folds.{list_any-append}
 use Rattle.uriparse_text.specs.Ambiguous.{is_ambiguous}
@@ -12,21 +13,32 @@ use Rattle.uriparse_authority.specs.Normal.{canonical_authority, canonical_host}
 use Rattle.uriparse_authority.specs.Port as port
 use Rattle.uriparse_authority.specs.declared.authority.host.Host.{Host}
 use Rattle.uriparse_authority.proofs.lemmas.authorities.NormalLemmas as authorities
-use Rattle.uriparse_path.specs.Dots.{all_but_last}
-use Rattle.uriparse_path.specs.Normal.{pnormal}
-use Rattle.uriparse_path.specs.Within.{AreWithin, IsPathWithin, has_ambiguous}
+use Rattle.uriparse_text.specs.Bytes.{dot}
+use Rattle.uriparse_text.specs.Canonical.{canonical}
+use Rattle.uriparse_text.specs.Segment.{is_segment}
+use Rattle.uriparse_text.proofs.lemmas.canonical.DotLemmas.{canonical-dot}
+use Rattle.uriparse_path.specs.Dots.{all_but_last, has_dot_segment, is_double_dot, is_single_dot}
+use Rattle.uriparse_path.specs.Edits.{dotted}
+use Rattle.uriparse_path.specs.Normal.{canonical_path, pnormal}
+use Rattle.uriparse_path.specs.Path.{PathParts, has_two_slashes, text}
+use Rattle.uriparse_path.specs.Within.{AreWithin, IsPathWithin, has_ambiguous, is_unclear, removed_segments, removes_unclear}
+use Rattle.uriparse_path.proofs.lemmas.dots.DotSegmentLemmas.{dot_single, not_both}
+use Rattle.uriparse_path.proofs.lemmas.left.RemovedLemmas.{no_double, none_removed}
+use Rattle.uriparse_path.proofs.lemmas.merge.MergedNormalFormLemmas.{listed_undotted, no_dots_undotted, pnormal_is, undotted}
 use Rattle.uriparse_path.proofs.lemmas.normal.NormalFormLemmas.{listed_pnormal, pnormal_twice}
+use Rattle.uriparse_path.proofs.lemmas.normal.RelativeFormLemmas.{has_dot-canonical}
+use Rattle.uriparse_path.proofs.lemmas.text.CanonicalTextLemmas.{listed-canonical}
 use Rattle.uriparse_scheme.specs.DefaultPort.{default_port}
 use Rattle.uriparse_scheme.specs.Normal.{canonical_scheme}
 use Rattle.uriparse_scheme.specs.Scheme as scheme
 use Rattle.uriparse_scheme.specs.declared.scheme.Scheme.{Scheme}
 use Rattle.uriparse_scheme.specs.declared.scheme.Scheme.TheVariants.{Registered, Unregistered}
 use Rattle.uriparse_scheme.proofs.lemmas.schemes.NormalLemmas as schemes
-use Rattle.uriparse_reference.specs.Normal.{normal}
+use Rattle.uriparse_reference.specs.Normal.{dot_prefixed, normal}
 use Rattle.uriparse_reference.specs.Reference.{Parts, Same, Valid}
 use Rattle.uriparse_reference.proofs.lemmas.edits.PathRuleLemmas.{fits_of, pnormal_formed}
 use Rattle.uriparse_reference.proofs.lemmas.normalizing.NormalFormLemmas.{fits_normal_path, pnormal_shielded}
-use Rattle.uriparse_reference.proofs.lemmas.resolving.EqualTargetLemmas.{one_normal}
+use Rattle.uriparse_reference.proofs.lemmas.resolving.EqualTargetLemmas.{alike_of, one_normal}
 use Rattle.uriparse.specs.Kinds.{IsOfKind}
 use Rattle.uriparse.specs.Within.{IsSamePlace, IsWithin, with_used_port}
 
@@ -151,20 +163,67 @@ path_normal p v k =
     pnormal_shielded p.authority (pnormal p.path r) r (listed_pnormal p.path r is.listed) (pnormal_formed p.path r is.listed is.formed) (fits_normal_path p v)
     ∙ pnormal_twice p.path r is.listed)
 
-pub within_normal : (p b : Parts) → Valid p → IsOfKind true p → IsWithin p b ↔ IsWithin (normal p) b
-within_normal p b v k =
+-- ---- segments that are removed
+
+one_dot : is_double_dot (dot ∷ []) ≡ false
+one_dot = by_kind (is_double_dot (dot ∷ [])) refl
+  where
+    by_kind : (v : Bool) → is_double_dot (dot ∷ []) ≡ v → v ≡ false
+    by_kind false e = refl
+    by_kind true e = absurd (false≢true (sym (not_both (dot ∷ []) e) ∙ dot_single))
+
+none_double : (ss : List (List ℕ)) → list_all is_segment ss ≡ true → has_dot_segment ss ≡ false → list_any is_double_dot (map canonical ss) ≡ false
+none_double ss is h = no_double (map canonical ss) (has_dot-canonical ss is ∙ h)
+
+-- a path without dot segments, perhaps after a leading "."
+pub undotted_clear : (a : Option authority.AuthorityParts) (p : PathParts) → list_all is_segment p.segments ≡ true → has_dot_segment p.segments ≡ false
+    → removes_unclear (dot_prefixed a p) ≡ false
+undotted_clear (Some a) p is h = ap (list_any is_unclear) (none_removed (map canonical p.segments) (none_double p.segments is h))
+undotted_clear None p is h = by_slashes (has_two_slashes (text p))
+  where
+    by_slashes : (v : Bool) → removes_unclear (cond v (dotted p) p) ≡ false
+    by_slashes false = ap (list_any is_unclear) (none_removed (map canonical p.segments) (none_double p.segments is h))
+    by_slashes true =
+        ap (list_any is_unclear) (none_removed (map canonical ((dot ∷ []) ∷ p.segments))
+        (or_from (is_double_dot (canonical (dot ∷ []))) (list_any is_double_dot (map canonical p.segments))
+        (ap is_double_dot canonical-dot ∙ one_dot) (none_double p.segments is h)))
+
+-- the path of a normal form has no dot segment after a leading "."
+normal_clear : (p : Parts) → Valid p → IsOfKind true p → removes_unclear (normal p).path ≡ false
+normal_clear p v k =
+    let is = fits_of p v in
+    let e = no_none p.scheme k in
+    let same = pnormal_is p.path false is.listed is.formed refl in
+    let listed = listed_undotted p.path is.listed in
+    subst (λ f. removes_unclear (dot_prefixed p.authority (pnormal p.path f)) ≡ false) (sym e)
+    (subst (λ q. removes_unclear (dot_prefixed p.authority q) ≡ false) (sym same)
+    (undotted_clear p.authority (canonical_path (undotted p.path)) (listed-canonical (undotted p.path).segments listed).each
+    (has_dot-canonical (undotted p.path).segments listed.each ∙ no_dots_undotted p.path is.listed)))
+
+-- equal URIs remove segments that are spelled alike
+clear_equals : (p q : Parts) → Valid p → Valid q → Same p q → removes_unclear p.path ≡ false → removes_unclear q.path ≡ false
+clear_equals p q v w same h =
+    ap (λ (r : PathParts). list_any is_unclear (removed_segments r.segments)) (sym (alike_of p q v w same).paths) ∙ h
+
+pub within_normal : (p b : Parts) → Valid p → IsOfKind true p → IsWithin p b → IsWithin (normal p) b
+within_normal p b v k w =
     let t = scheme_texts p.scheme v.is_scheme in
     let u = keys p.scheme p.authority v.is_authority in
-    let e = path_normal p v k in (
-      λ w. record {
-        place = record { schemes = t ∙ w.place.schemes; authorities = u ∙ w.place.authorities };
-        path = subst (λ q. IsPathWithin q (pnormal b.path false)) (sym e) w.path;
-      },
-      λ w. record {
-        place = record { schemes = sym t ∙ w.place.schemes; authorities = sym u ∙ w.place.authorities };
-        path = subst (λ q. IsPathWithin q (pnormal b.path false)) e w.path;
-      },
-    )
+    let e = path_normal p v k in record {
+      place = record { schemes = t ∙ w.place.schemes; authorities = u ∙ w.place.authorities };
+      path = subst (λ q. IsPathWithin q (pnormal b.path false)) (sym e) w.path;
+      clear = normal_clear p v k;
+    }
+
+pub within_normal_back : (p b : Parts) → Valid p → IsOfKind true p → removes_unclear p.path ≡ false → IsWithin (normal p) b → IsWithin p b
+within_normal_back p b v k h w =
+    let t = scheme_texts p.scheme v.is_scheme in
+    let u = keys p.scheme p.authority v.is_authority in
+    let e = path_normal p v k in record {
+      place = record { schemes = sym t ∙ w.place.schemes; authorities = sym u ∙ w.place.authorities };
+      path = subst (λ q. IsPathWithin q (pnormal b.path false)) e w.path;
+      clear = h;
+    }
 
 pub within_normal_base : (p b : Parts) → Valid b → IsOfKind true b → IsWithin p b ↔ IsWithin p (normal b)
 within_normal_base p b v k =
@@ -174,10 +233,12 @@ within_normal_base p b v k =
       λ w. record {
         place = record { schemes = w.place.schemes ∙ sym t; authorities = w.place.authorities ∙ sym u };
         path = subst (λ q. IsPathWithin (pnormal p.path false) q) (sym e) w.path;
+        clear = w.clear;
       },
       λ w. record {
         place = record { schemes = w.place.schemes ∙ t; authorities = w.place.authorities ∙ u };
         path = subst (λ q. IsPathWithin (pnormal p.path false) q) e w.path;
+        clear = w.clear;
       },
     )
 
@@ -185,7 +246,7 @@ within_normal_base p b v k =
 pub within_equals : (p q b c : Parts) → Valid p → Valid q → Valid b → Valid c → IsOfKind true p → IsOfKind true q → IsOfKind true b → IsOfKind true c
     → Same p q → Same b c → IsWithin p b → IsWithin q c
 within_equals p q b c v w x y k l m n same other h =
-    let one : IsWithin (normal p) (normal b) = (within_normal_base (normal p) b x m).0 ((within_normal p b v k).0 h) in
+    let one : IsWithin (normal p) (normal b) = (within_normal_base (normal p) b x m).0 (within_normal p b v k h) in
     let two : IsWithin (normal q) (normal c) =
     subst (λ r. IsWithin (normal q) r) (one_normal b c x y other) (subst (λ r. IsWithin r (normal b)) (one_normal p q v w same) one) in
-    (within_normal q c w l).1 ((within_normal_base (normal q) c y n).1 two)
+    within_normal_back q c w l (clear_equals p q v w same h.clear) ((within_normal_base (normal q) c y n).1 two)

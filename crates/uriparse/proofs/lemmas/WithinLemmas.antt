@@ -9,7 +9,7 @@ use Rattle.uriparse_authority.specs.Port as port
 use Rattle.uriparse_authority.proofs.lemmas.authorities.AuthorityLemmas.{tested}
 use Rattle.uriparse_path.specs.Path.{has_hidden_root, respelled, spelled, text}
 use Rattle.uriparse_path.specs.Normal.{pnormal}
-use Rattle.uriparse_path.specs.Within.{IsPathWithin}
+use Rattle.uriparse_path.specs.Within.{IsPathWithin, removes_unclear}
 use Rattle.uriparse_path.proofs.lemmas.text.PathTextLemmas.{spelled-text}
 use Rattle.uriparse_scheme.specs.declared.scheme.Scheme.{Scheme}
 use Rattle.uriparse_reference.specs.Reference.{Parts, Valid}
@@ -41,13 +41,13 @@ pub shown_text : (p : Parts) (t : List ℕ) → Valid p → t ≡ text p.path �
 shown_text p t v e = ap has_hidden_root (path_of_text p t v e) ∙ v.plain
 
 pub within_texts : (p b : Parts) (t u : List ℕ) (r : Bool) → Valid p → Valid b → t ≡ text p.path → u ≡ text b.path
-    → IsSamePlace p.scheme b.scheme p.authority b.authority → IsTrue r ↔ IsPathWithin (pnormal (spelled t) false) (pnormal (spelled u) false)
-    → IsTrue r ↔ IsWithin p b
+    → IsSamePlace p.scheme b.scheme p.authority b.authority
+    → IsTrue r ↔ (IsPathWithin (pnormal (spelled t) false) (pnormal (spelled u) false) × (removes_unclear (spelled t) ≡ false)) → IsTrue r ↔ IsWithin p b
 within_texts p b t u r v w e f place iff =
-    let both : IsTrue r ↔ IsPathWithin (pnormal p.path false) (pnormal b.path false) =
-    subst (λ q. IsTrue r ↔ IsPathWithin (pnormal p.path false) (pnormal q false)) (path_of_text b u w f)
-    (subst (λ q. IsTrue r ↔ IsPathWithin (pnormal q false) (pnormal (spelled u) false)) (path_of_text p t v e) iff) in
-    ((λ h. record { place = place; path = both.0 h }), (λ h. both.1 h.path))
+    let both : IsTrue r ↔ (IsPathWithin (pnormal p.path false) (pnormal b.path false) × (removes_unclear p.path ≡ false)) =
+    subst (λ q. IsTrue r ↔ (IsPathWithin (pnormal p.path false) (pnormal q false) × (removes_unclear p.path ≡ false))) (path_of_text b u w f)
+    (subst (λ q. IsTrue r ↔ (IsPathWithin (pnormal q false) (pnormal (spelled u) false) × (removes_unclear q ≡ false))) (path_of_text p t v e) iff) in
+    ((λ h. let is = both.0 h in record { place = place; path = is.0; clear = is.1 }), (λ h. both.1 (h.path, h.clear)))
 
 pub place_along : (s r t u : Option Scheme) (a b d e : Option authority.AuthorityParts) → s ≡ r → t ≡ u → a ≡ b → d ≡ e → IsSamePlace s t a d → IsSamePlace r u b e
 place_along s r t u a b d e f g h i p =

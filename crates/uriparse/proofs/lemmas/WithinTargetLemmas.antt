@@ -7,6 +7,7 @@ use Rattle.std.proofs.lemmas.List.{length-map, map-append}
 use Rattle.uriparse_text.specs.Bytes.{dot}
 use Rattle.uriparse_text.specs.Ambiguous.{is_ambiguous}
 use Rattle.uriparse_text.specs.Canonical.{canonical}
+use Rattle.uriparse_text.proofs.lemmas.tokens.CodingLemmas.{decoded-nil}
 use Rattle.uriparse_text.proofs.lemmas.tokens.TokenLemmas.{tokens-nil}
 use Rattle.uriparse_text.proofs.lemmas.canonical.DotLemmas.{canonical-dots, canonical-nil, double_is, double_of}
 use Rattle.uriparse_path.specs.Path.{IsListed, PathParts, has_hidden_root, is_rooted, max_segments, pieces, respelled, starts_with_empty_segment, text}
@@ -15,12 +16,12 @@ use Rattle.uriparse_path.specs.Merge.{merged}
 use Rattle.uriparse_path.specs.Normal.{canonical_path, pnormal}
 use Rattle.uriparse_path.specs.Relative.{is_last, relative_normal}
 use Rattle.uriparse_path.specs.Remaining.{Remaining, nothing, process_all, process_plain, remaining_of, with_end}
-use Rattle.uriparse_path.specs.Within.{AreWithin, between_slashes, has_ambiguous, led}
+use Rattle.uriparse_path.specs.Within.{AreWithin, between_slashes, has_ambiguous, led, removes_unclear}
 use Rattle.uriparse_path.proofs.lemmas.dots.ReplayLemmas.{replay_some}
 use Rattle.uriparse_path.proofs.lemmas.left.BackwardLemmas.{process_all-append}
 use Rattle.uriparse_path.proofs.lemmas.left.PathWithinLemmas.{left-normal, within_from}
 use Rattle.uriparse_path.proofs.lemmas.left.RemainingLemmas.{cuts, replay_left, walk_left}
-use Rattle.uriparse_path.proofs.lemmas.merge.MergedNormalFormLemmas.{all_but_last_push, listed_undotted, pnormal_is, replay-append, respelled_twice, shaped_same, step, undotted, undotted_twice, walk, walk-append}
+use Rattle.uriparse_path.proofs.lemmas.merge.MergedNormalFormLemmas.{all_but_last_push, listed_undotted, no_dots_undotted, pnormal_is, replay-append, respelled_twice, shaped_same, step, undotted, undotted_twice, walk, walk-append}
 use Rattle.uriparse_path.proofs.lemmas.normal.NormalFormLemmas.{pnormal_relative}
 use Rattle.uriparse_path.proofs.lemmas.normal.RelativeFormLemmas.{relative_is, shaped}
 use Rattle.uriparse_path.proofs.lemmas.normal.RelativeLengthLemmas.{last_push, pushed}
@@ -33,7 +34,7 @@ use Rattle.uriparse_reference.proofs.lemmas.normalizing.NormalFormLemmas.{pnorma
 use Rattle.uriparse_reference.proofs.lemmas.resolving.MergedPathLemmas.{IsFollowing, fits_merged, merged_spelled}
 use Rattle.uriparse_reference.proofs.lemmas.resolving.ValidTargetLemmas.{chosen, dots_removed-merged, fits_undotted, following, le_from}
 use Rattle.uriparse.specs.Within.{IsWithin}
-use Rattle.uriparse.proofs.lemmas.WithinLawLemmas.{are_within_itself}
+use Rattle.uriparse.proofs.lemmas.WithinLawLemmas.{are_within_itself, undotted_clear}
 
 -- ---- segments without ".." after others
 
@@ -78,7 +79,7 @@ some_added (s ∷ r ∷ ss) h = by_kind (is_single_dot s) (some_added (r ∷ ss)
 
 plain_empty : is_ambiguous (canonical []) ≡ false
 unfolding is_ambiguous
-plain_empty = rw (canonical-nil, tokens-nil) refl
+plain_empty = rw (canonical-nil, tokens-nil, decoded-nil [] refl) refl
 
 plain_added : (ss : List (List ℕ)) → has_ambiguous (map canonical ss) ≡ false → has_ambiguous (map canonical (added ss)) ≡ false
 unfolding added
@@ -386,12 +387,16 @@ target_below b r t v w h last more none plain given = by_room (nat_le (length (p
           path = subst (λ p. AreWithin (between_slashes p) (between_slashes (pnormal b.path false))) (sym path_is)
               (merged_paths b.path r.path fb.listed fb.formed js.listed fm.listed fm.formed last
               (ap (list_any is_double_dot) (sym relative_is_form) ∙ none) (ap has_ambiguous (sym relative_is_form) ∙ plain) more);
+          clear = subst (λ p. removes_unclear (dot_prefixed b.authority p) ≡ false) (sym (dots_removed-merged (is_some b.authority) b.path r.path fb js short))
+              (undotted_clear b.authority (undotted (merged b.path r.path)) (listed_undotted (merged b.path r.path) fm.listed).each
+              (no_dots_undotted (merged b.path r.path) fm.listed));
         })
 
 -- a reference with nothing but a query or a fragment
 pub own_below : (b r t : Parts) (front : List (List ℕ)) (last : List ℕ) → Valid b → r.scheme ≡ None → r.authority ≡ None → is_empty (text r.path) ≡ true
-    → between_slashes (pnormal b.path false) ≡ front ++ last ∷ [] → is_ambiguous last ≡ false → target b r ≡ Some t → IsWithin t b
-own_below b r t front last v e f g cut plain given =
+    → between_slashes (pnormal b.path false) ≡ front ++ last ∷ [] → is_ambiguous last ≡ false → removes_unclear b.path ≡ false → target b r ≡ Some t
+    → IsWithin t b
+own_below b r t front last v e f g cut plain clear given =
     let chosen_is : target b r ≡ chosen false false true (is_rooted (text r.path)) b r =
     ap (λ z. chosen (is_some z) (is_some r.authority) (is_empty (text r.path)) (is_rooted (text r.path)) b r) e
     ∙ ap (λ z. chosen false (is_some z) (is_empty (text r.path)) (is_rooted (text r.path)) b r) f
@@ -400,4 +405,5 @@ own_below b r t front last v e f g cut plain given =
       place = record { schemes = refl; authorities = refl };
       path = subst (λ p. AreWithin (between_slashes (pnormal p false)) (between_slashes (pnormal b.path false))) (sym (shielded_fits b.authority b.path (fits_of b v)))
           (are_within_itself (between_slashes (pnormal b.path false)) front last cut plain);
+      clear = subst (λ p. removes_unclear p ≡ false) (sym (shielded_fits b.authority b.path (fits_of b v))) clear;
     })

@@ -7,7 +7,7 @@ ghost use Rattle.uriparse_authority.specs.Authority.{each_alike, key, with_port}
 ghost use Rattle.uriparse_authority.specs.Port.{IsPort};
 ghost use Rattle.uriparse_path.specs.Normal.{pnormal};
 ghost use Rattle.uriparse_path.specs.Path.{IsPath, has_hidden_root, spelled};
-ghost use Rattle.uriparse_path.specs.Within.{IsPathWithin};
+ghost use Rattle.uriparse_path.specs.Within.{IsPathWithin, removes_unclear};
 ghost use Rattle.uriparse.specs.Within as spec;
 
 use super::{URI, URIView};
@@ -93,13 +93,14 @@ fn is_same_place(
     }
 }
 
-/// Whether the normal form of a path's text is in the directory of the other one's.
+/// Whether the normal form of a path's text is in the directory of the other one's, and no `..` of the
+/// path removes a segment on which readers disagree.
 fn is_text_within(path: &[u8], base: &[u8]) -> bool
     requires path { IsPath path.now }
     requires base { IsPath base.now }
     requires shown { has_hidden_root (spelled path.now) ≡ false }
     requires shown_base { has_hidden_root (spelled base.now) ≡ false }
-    ensures { IsTrue result ↔ IsPathWithin (pnormal (spelled path.now) false) (pnormal (spelled base.now) false) }
+    ensures { IsTrue result ↔ (IsPathWithin (pnormal (spelled path.now) false) (pnormal (spelled base.now) false) × (removes_unclear (spelled path.now) ≡ false)) }
 {
     let (absolute, _) = split_root(path);
     let (base_absolute, _) = split_root(base);
@@ -145,11 +146,19 @@ impl<'u> URI<'u> {
     ///
     /// Segments are compared whole and in canonical spelling, after dot segments are removed. So
     /// `/app/../admin` and `/app/%2e%2e/admin` are not below `/app/`, and `/appX` is not either.
-    /// User information, if either has any, must be equal. A base whose path has no slash, as
+    /// User information, if either has any, must be equal. A base whose path has no slash, such as
     /// `mailto:a@b`, has nothing below it but what has the same path.
     ///
-    /// A URI is never below `base` if a segment after the directory [is
-    /// ambiguous](uriparse_text::segment::Segment::is_ambiguous), so neither is `/app/..;/admin`.
+    /// Servers disagree on some segments, so two kinds of URIs are never below `base`:
+    ///
+    /// - one whose normal form has [an ambiguous](uriparse_text::segment::Segment::is_ambiguous) segment
+    ///   after the directory, such as `/app/..;/admin`;
+    /// - one in whose path a `..` removes an ambiguous segment, an empty one or one with nothing before
+    ///   its first `;`, such as `/app/..;/../a` or `/app//../admin`. Servers that drop what follows a
+    ///   `;`, decode escapes or merge slashes before they remove dot segments read `/a` and `/admin`.
+    ///
+    /// Hand on the normal form, or the target of [`resolve`](crate::URIReference::resolve). A reader that
+    /// doesn't take `%2e%2e` for `..` finds another path in the string that was checked.
     ///
     /// ```
     /// let base = URI::try_from_str(alloc, "https://example.com/app/")?;
@@ -157,6 +166,8 @@ impl<'u> URI<'u> {
     /// assert!(below.is_within(&base));
     /// let beside = URI::try_from_str(alloc, "https://example.com/app/%2e%2e/admin")?;
     /// assert!(!beside.is_within(&base));
+    /// let unclear = URI::try_from_str(alloc, "https://example.com/app//../admin")?;
+    /// assert!(!unclear.is_within(&base));
     /// ```
     pub fn is_within(&self, base: &URI<'_>) -> bool
         ensures { IsTrue result ↔ spec.IsWithin self.now base.now }

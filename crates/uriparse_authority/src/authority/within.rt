@@ -1,6 +1,6 @@
 //! Whether a host is a domain or within it, and whether a name may be taken for an address: RFC
 //! 1034, section 3.1, RFC 1123, section 2.1, and RFC 3986, section 7.4.
-ghost use Rattle.std.specs.Prelude.{◌≡◌, ◌↔◌, ℕ, ◌<◌, ◌≤◌, ◌++◌, [], List, IsTrue, MatchOption, IfSome, drop, length, true};
+ghost use Rattle.std.specs.Prelude.{◌≡◌, ◌↔◌, ℕ, ◌<◌, ◌≤◌, ◌++◌, ◌&&◌, [], List, IsTrue, MatchOption, IfSome, drop, length, not, true};
 ghost use Rattle.std.specs.List.{Any, count_by, list_any, slice_split};
 ghost use Rattle.uriparse_text.specs.declared.internal.token.Case.TheVariants as case;
 ghost use Rattle.uriparse_text.specs.Bytes.{is_hex};
@@ -11,40 +11,22 @@ ghost use Rattle.uriparse_authority.specs.Within as spec;
 
 use super::Host;
 use uriparse_text::address::Ipv4Addr;
-use uriparse_text::internal::{Case, Form, is_escape, prepend_formed, same_spelling};
+use uriparse_text::internal::{
+    Case, Form, is_escape, is_unreserved, octet_of, prepend_formed, same_spelling,
+};
 
-/// Whether an escape with these digits is a dot.
-fn is_escaped_dot(high: u8, low: u8) -> bool
-    ensures { result ≡ spec.is_escaped_dot high low }
-{
-    high == b'2' && matches!(low, b'E' | b'e')
-}
-
-/// Whether an escape with these digits is a digit.
-fn is_escaped_digit(high: u8, low: u8) -> bool
-    ensures { result ≡ spec.is_escaped_digit high low }
-{
-    high == b'3' && low.is_ascii_digit()
-}
-
-/// The dot or the digit that an escape stands for, else `%`.
+/// The unreserved byte that an escape stands for, else `%`.
 fn octet_of_escape(high: u8, low: u8) -> u8
     requires high { is_hex high ≡ true }
     requires low { is_hex low ≡ true }
     ensures { spec.HasOctet result (spell (canonical_token case.Lowered (Escape high low))) }
 {
-    if is_escaped_dot(high, low) {
-        return b'.';
-    }
-    if is_escaped_digit(high, low) {
-        low
-    } else {
-        b'%'
-    }
+    let octet = octet_of(high, low);
+    if is_unreserved(octet) { octet } else { b'%' }
 }
 
-/// The first byte of a name's text, or the dot or the digit that a first escape stands for, and
-/// what follows.
+/// The first byte of a name's text, or the unreserved byte that a first escape stands for, and what
+/// follows.
 fn split_octet(text: &[u8]) -> Option<(u8, &[u8])>
     ensures cut { MatchOption result (text.now ≡ []) (λ x. spec.BeginsWithOctet x.0 text.now x.1.now) }
     ensures formed { is_well_formed text.now ≡ true → IfSome result (λ x. is_well_formed x.1.now ≡ true) }
@@ -150,12 +132,36 @@ fn ends_with_labels(name: &[u8], domain: &[u8]) -> bool
     }
 }
 
-/// Whether a name without a dot at its end has no empty label, and neither it nor the domain is an
-/// address.
+/// Whether the canonical spelling of a name has an escape.
+fn has_escape(text: &[u8]) -> bool
+    ensures { result ≡ spec.has_escape (canonical_lowered text.now) }
+{
+    let mut rest = text;
+    'octets: while let Some((octet, after)) = split_octet(rest) {
+        if octet == b'%' {
+            return true;
+        }
+        rest = after;
+    }
+    false
+}
+
+/// Whether neither of two names is an address.
+fn are_no_addresses(name: &[u8], domain: &[u8]) -> bool
+    ensures { result ≡ (not (spec.is_address (canonical_lowered name.now)) && not (spec.is_address (canonical_lowered domain.now))) }
+{
+    !spells_address(name) && !spells_address(domain)
+}
+
+/// Whether a name without a dot at its end has no empty label, and neither it nor the domain has an
+/// escape or is an address.
 fn are_plain(name: &[u8], domain: &[u8]) -> bool
     ensures { result ≡ spec.are_plain (canonical_lowered name.now) (canonical_lowered domain.now) }
 {
-    !has_empty_label(name) && !spells_address(name) && !spells_address(domain)
+    !has_empty_label(name)
+        && !has_escape(name)
+        && !has_escape(domain)
+        && are_no_addresses(name, domain)
 }
 
 /// Whether the one name is within the other, as [`Host::is_within`] says.
@@ -188,8 +194,10 @@ impl<'h> Host<'h> {
     ///
     /// Names are compared by their canonical spelling, so letters of either case are equal, and so
     /// are a byte and its escape. A dot at the end of either name is ignored. A name with an empty
-    /// label, as `a..b` and the empty name have one, is within nothing but its equals, and so is
-    /// an address, and a name whose canonical spelling is the text of an IPv4 address.
+    /// label, such as `a..b` or the empty name, is within nothing but its equals, and nothing else is
+    /// within it. The same holds for an address, for a name whose canonical spelling is the text of an
+    /// IPv4 address, and for a name that [has escapes](Host::has_escapes). Sub-delimiters are allowed:
+    /// `a;b.example.com` is within `example.com`.
     ///
     /// ```
     /// let domain = Host::try_from_str("example.com")?;
@@ -237,6 +245,24 @@ impl<'h> Host<'h> {
     {
         match self {
             Host::RegisteredName(name) => spells_address(name.as_bytes()),
+            _ => false,
+        }
+    }
+
+    /// Whether the host is a name whose canonical spelling has an escape: one of a byte that is not
+    /// unreserved, such as `%2F` or a byte of a character that is not ASCII. Readers disagree on such
+    /// a name. Some decode it, so `evil.org%2F.example.com` leads them to `evil.org`, and a name
+    /// with full-width digits to an address. RFC 3986, sections 3.2.2 and 7.3. Does not allocate.
+    ///
+    /// ```
+    /// assert!(Host::try_from_str("evil.org%2F.example.com")?.has_escapes());
+    /// assert!(!Host::try_from_str("www.%65xample.com")?.has_escapes());
+    /// ```
+    pub fn has_escapes(&self) -> bool
+        ensures { result ≡ spec.has_escapes self.now }
+    {
+        match self {
+            Host::RegisteredName(name) => has_escape(name.as_bytes()),
             _ => false,
         }
     }

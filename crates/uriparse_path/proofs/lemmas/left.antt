@@ -6,3 +6,5 @@ pub mod RelativeRemainingLemmas
 pub mod NormalTextLemmas
 pub mod NormalSegmentsLemmas
 pub mod PathWithinLemmas
+pub mod RemovedLemmas
+pub mod DirectoryLemmas

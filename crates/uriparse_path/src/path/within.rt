@@ -1,20 +1,22 @@
 //! Whether a path is in the directory of another one, both in normal form, without a list of what
 //! is left of their segments: RFC 3986, sections 3.3 and 6.2.2. Read from the last segment to the
-//! first, a segment is kept or removed for good.
-ghost use Rattle.std.specs.Prelude.{◌≡◌, ◌↔◌, ◌+◌, ◌<◌, ◌≤◌, ◌++◌, ◌∷◌, [], ℕ, List, IsTrue, MatchOption, MatchResult, IfSome, Some, None, length, map, not, true, false};
+//! first, a segment is kept or removed for good. Absolute paths without dot segments are compared
+//! from the front.
+ghost use Rattle.std.specs.Prelude.{◌≡◌, ◌↔◌, ◌+◌, ◌<◌, ◌≤◌, ◌++◌, ◌∷◌, ◌&&◌, [], ℕ, List, IsTrue, MatchOption, MatchResult, IfSome, Some, None, bytes_eq, length, map, not, true, false};
+ghost use Rattle.std.specs.List.{list_any};
 ghost use Rattle.std.specs.Option.{option_map};
 ghost use Rattle.uriparse_text.specs.Ambiguous as ambiguous;
 ghost use Rattle.uriparse_text.specs.Canonical.{canonical};
-ghost use Rattle.uriparse_path.specs.Dots.{is_dot_segment};
+ghost use Rattle.uriparse_path.specs.Dots.{all_but_last, has_dot_segment as has_dots, is_dot_segment};
 ghost use Rattle.uriparse_path.specs.Path.{IsListed, has_hidden_root, max_segments};
 ghost use Rattle.uriparse_path.specs.Normal.{pnormal};
 ghost use Rattle.uriparse_path.specs.Relative.{is_last};
-ghost use Rattle.uriparse_path.specs.Remaining.{process_all, process_one, remaining_of};
+ghost use Rattle.uriparse_path.specs.Remaining.{Remaining, process_all, process_one, remaining_of};
 ghost use Rattle.uriparse_path.specs.Within as spec;
 
 use super::Segment;
-use super::rules::SegmentSequence;
-use uriparse_text::internal::Held;
+use super::rules::{SegmentSequence, has_dot_segment};
+use uriparse_text::internal::{Held, lacks_name};
 
 /// The `..` that have not met a segment to remove, and whether one removed the segment that was
 /// read last, apart from dot segments.
@@ -312,8 +314,142 @@ fn are_within<'t, L: SegmentSequence<'t>>(
     has_slash || are_equal(segments, base)
 }
 
-/// Whether the normal form of one path is in the directory of another one's. Neither is to follow a
-/// reference's beginning without a scheme. Does not allocate.
+/// Whether the segment is empty up to a first `;`, `?` or `#`, plain or escaped.
+fn is_nameless(segment: &Segment<'_>) -> bool
+    ensures { result ≡ bytes_eq (ambiguous.name_of (canonical segment.now)) [] }
+{
+    lacks_name(segment.as_bytes())
+}
+
+/// Whether readers disagree on whether the segment is one.
+fn is_unclear(segment: &Segment<'_>) -> bool
+    ensures { result ≡ spec.is_unclear (canonical segment.now) }
+{
+    is_ambiguous(segment) || is_nameless(segment)
+}
+
+/// Whether one of the waiting `..` removes the segment, and readers disagree on whether it is one.
+fn removes(waiting: usize, segment: &Segment<'_>) -> bool
+    ensures { result ≡ list_any spec.is_unclear (spec.onto_removed (canonical segment.now) waiting []) }
+{
+    let _bytes = segment.as_bytes();
+    if waiting == 0 {
+        return false;
+    }
+    if segment.is_dot_segment() {
+        return false;
+    }
+    is_unclear(segment)
+}
+
+/// The number of `..` that wait before the segment, if this many wait after it.
+fn waiting_before(waiting: usize, segment: &Segment<'_>) -> usize
+    requires { waiting < usize.MAX }
+    ensures before { (l : Remaining) → l.double_dots ≡ waiting → (process_one (canonical segment.now) l).double_dots ≡ result }
+    ensures few { result ≤ waiting + 1 }
+{
+    let _bytes = segment.as_bytes();
+    if segment.is_single_dot_segment() {
+        waiting
+    } else if segment.is_double_dot_segment() {
+        waiting + 1
+    } else {
+        waiting.saturating_sub(1)
+    }
+}
+
+/// Whether a `..` removes a segment on which readers disagree.
+fn removes_unclear<'t, L: SegmentSequence<'t>>(segments: L) -> bool
+    requires { length (L.listed segments) ≤ max_segments }
+    ensures { result ≡ list_any spec.is_unclear (spec.removed_segments (map canonical (L.listed segments))) }
+{
+    let mut waiting = 0;
+    let mut left = segments;
+    'segments: while let Some((front, last)) = left.split_last() {
+        let last = Held(last);
+        if removes(waiting, &last.0) {
+            return true;
+        }
+        waiting = waiting_before(waiting, &last.0);
+        left = front;
+    }
+    false
+}
+
+/// What follows the segments of a directory, if others begin with them.
+fn strip_directory<'t, L: SegmentSequence<'t>>(segments: L, directory: L) -> Option<L>
+    ensures { MatchOption result ((rest : List (List ℕ)) → map canonical (L.listed segments) ≡ map canonical (L.listed directory) ++ rest → ⊥) (λ x. map canonical (L.listed segments) ≡ map canonical (L.listed directory) ++ map canonical (L.listed x)) }
+{
+    let mut left = segments;
+    let mut more = directory;
+    'segments: while let Some((expected, others)) = more.split() {
+        let expected = Held(expected);
+        let Some((first, following)) = left.split() else {
+            return None;
+        };
+        if Held(first).0 != expected.0 {
+            return None;
+        }
+        left = following;
+        more = others;
+    }
+    Some(left)
+}
+
+/// Whether there is a segment.
+fn has_segment<'t, L: SegmentSequence<'t>>(segments: &L) -> bool
+    ensures { IsTrue result ↔ (0 < length (L.listed segments.now)) }
+{
+    Held(segments.split()).0.is_some()
+}
+
+/// Whether there is an ambiguous segment.
+fn has_ambiguous<'t, L: SegmentSequence<'t>>(segments: L) -> bool
+    ensures { result ≡ spec.has_ambiguous (map canonical (L.listed segments)) }
+{
+    let mut left = segments;
+    'segments: while let Some((first, following)) = left.split() {
+        if is_ambiguous(&Held(first).0) {
+            return true;
+        }
+        left = following;
+    }
+    false
+}
+
+/// Whether there are segments, and none of them is ambiguous.
+fn are_unambiguous<'t, L: SegmentSequence<'t>>(segments: L) -> bool
+    ensures { IsTrue result ↔ ((0 < length (L.listed segments)) × (spec.has_ambiguous (map canonical (L.listed segments)) ≡ false)) }
+{
+    has_segment(&segments) && !has_ambiguous(segments)
+}
+
+/// Whether the segments begin with those of the base but the last one, and more follow, none of which
+/// is ambiguous.
+fn is_in_directory<'t, L: SegmentSequence<'t>>(segments: L, base: L) -> bool
+    requires { 0 < length (L.listed base) }
+    ensures { IsTrue result ↔ spec.HasDirectory (map canonical (L.listed segments)) (all_but_last (map canonical (L.listed base))) }
+{
+    let Some((directory, last)) = base.split_last() else {
+        return false;
+    };
+    let _last = Held(last);
+    match strip_directory(segments, directory) {
+        Some(rest) => are_unambiguous(rest),
+        None => false,
+    }
+}
+
+/// Whether the path is absolute and has no dot segment.
+fn is_plain<'t, L: SegmentSequence<'t>>(absolute: bool, segments: &L) -> bool
+    ensures { result ≡ (absolute && not (has_dots (L.listed segments.now))) }
+{
+    absolute && !has_dot_segment(segments.again())
+}
+
+/// Whether the normal form of one path is in the directory of another one's, and no `..` of the first
+/// removes a segment on which readers disagree. Neither is to follow a reference's beginning without a
+/// scheme. Does not allocate.
 pub fn is_path_within<'t, L: SegmentSequence<'t>>(
     absolute: bool,
     segments: L,
@@ -324,8 +460,14 @@ pub fn is_path_within<'t, L: SegmentSequence<'t>>(
     requires base { IsListed (L.listed base) }
     requires shown { has_hidden_root (record { absolute = absolute; segments = L.listed segments }) ≡ false }
     requires shown_base { has_hidden_root (record { absolute = base_absolute; segments = L.listed base }) ≡ false }
-    ensures { IsTrue result ↔ spec.IsPathWithin (pnormal (record { absolute = absolute; segments = L.listed segments }) false) (pnormal (record { absolute = base_absolute; segments = L.listed base }) false) }
+    ensures { IsTrue result ↔ (spec.IsPathWithin (pnormal (record { absolute = absolute; segments = L.listed segments }) false) (pnormal (record { absolute = base_absolute; segments = L.listed base }) false) × (spec.removes_unclear (record { absolute = absolute; segments = L.listed segments }) ≡ false)) }
 {
+    if is_plain(absolute, &segments) && is_plain(base_absolute, &base) {
+        return is_in_directory(segments, base);
+    }
+    if removes_unclear(segments.again()) {
+        return false;
+    }
     let path = NormalSegments::of(absolute, segments);
     let directory = NormalSegments::of(base_absolute, base);
     are_within(path, directory)

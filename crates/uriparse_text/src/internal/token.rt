@@ -107,7 +107,7 @@ pub(super) fn are_hex_digits(high: u8, low: u8) -> bool
 
 /// The byte that an escape with these digits represents.
 #[inline(always)]
-pub(super) fn octet_of(high: u8, low: u8) -> u8
+pub fn octet_of(high: u8, low: u8) -> u8
     requires high { is_hex high ≡ true }
     requires low { is_hex low ≡ true }
     ensures { result ≡ canonical.escaped_byte high low }

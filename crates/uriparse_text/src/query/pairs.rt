@@ -81,10 +81,10 @@ pub fn push_pair(text: &mut Vec<u8>, pair: (&[u8], Option<&[u8]>)) -> Result<(),
     ensures bytes { OnOk result (spec.are_pair_bytes (spec.given pair.entry) ≡ true) }
 {
     let (name, value) = pair;
-    push_encoded(text, Class::Query, b"&=+", name)?;
+    push_encoded(text, Class::Query, b"&=+*", name)?;
     if let Some(value) = value {
         text.push(b'=')?;
-        push_encoded(text, Class::Query, b"&=+", value)?;
+        push_encoded(text, Class::Query, b"&=+*", value)?;
     }
     Ok(())
 }

@@ -56,7 +56,7 @@ impl<'b> Appending for InPair<'b> {
     ghost text = { λ s. spec.encoded_in_pair s.0.now };
 
     fn append_to(&self, out: &mut [u8], len: usize) -> usize {
-        append_encoded(Class::Query, b"&=+", self.0, out, len)
+        append_encoded(Class::Query, b"&=+*", self.0, out, len)
     }
 }
 

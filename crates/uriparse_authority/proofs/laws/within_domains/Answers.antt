@@ -1,5 +1,5 @@
 use Rattle.std.proofs.Common.{inl, refl}
-use Rattle.uriparse_authority.proofs.lemmas.hosts.WithinLawLemmas.{within_again, within_bytes, within_equals, within_hidden, within_kinds, within_labels}
+use Rattle.uriparse_authority.proofs.lemmas.hosts.WithinLawLemmas.{within_again, within_bytes, within_equals, within_escaped, within_hidden, within_kinds, within_labels}
 use Rattle.uriparse_authority.proofs.laws.within_domains.Goals as goal
 
 pub returns : goal.returns
@@ -9,6 +9,7 @@ returns c = record {
   equals = within_equals;
   kinds = within_kinds;
   hidden = within_hidden;
+  escaped = within_escaped;
   labels = within_labels;
   bytes = within_bytes;
 }

@@ -19,8 +19,8 @@ use Rattle.uriparse_text.specs.Canonical.{canonical_in, canonical_lowered, canon
 use Rattle.uriparse_text.specs.Tokens.{has_digits, is_token, is_well_formed, spell, tokens}
 use Rattle.uriparse_text.proofs.lemmas.canonical.CanonicalLemmas.{by_escaped}
 use Rattle.uriparse_text.proofs.lemmas.tokens.TokenLemmas.{digits-tokens, spell-tokens, tokens-border, tokens-escape, tokens-mark, tokens-nil}
-use Rattle.uriparse_authority.specs.Within.{is_dot, is_escaped_dot, without_end_dot}
-use Rattle.uriparse_authority.proofs.lemmas.hosts.WithinLemmas.{value_dot}
+use Rattle.uriparse_authority.specs.Within.{has_escape, is_dot, is_percent, without_end_dot}
+use Rattle.uriparse_authority.proofs.lemmas.hosts.WithinLemmas.{is_escaped_dot, value_dot}
 
 -- ---- a dot at the end
 
@@ -188,3 +188,15 @@ digits_after s (b ∷ t) some all = ends-append s b t ∙ digits_end (b ∷ t) s
 
 pub address_end : (t a : List ℕ) → SpellsIpv4 t a → without_end_dot t ≡ t
 address_end t a s = kept-end t (ap ends_in_dot s.whole ∙ digits_after _ s.fourth s.is_fourth.number.0.0 s.is_fourth.number.0.1)
+
+-- ---- escapes
+
+-- the dot at the end is no escape
+pub escape-end : (t : List ℕ) → has_escape (without_end_dot t) ≡ has_escape t
+escape-end [] = refl
+escape-end (b ∷ []) = by_dot (is_dot b) refl
+  where
+    by_dot : (v : Bool) → is_dot b ≡ v → has_escape (cond v [] (b ∷ [])) ≡ has_escape (b ∷ [])
+    by_dot true e = let other : is_percent b ≡ false = grind (arith, nat_tests) in sym (ap (λ v. v || false) other)
+    by_dot false e = refl
+escape-end (b ∷ c ∷ t) = ap (λ v. is_percent b || v) (escape-end (c ∷ t))

@@ -1,10 +1,11 @@
 -- Names within names, by the labels that are skipped.
 use Rattle.std.proofs.Common.{◌≡◌, ◌↔◌, ℕ, zero, suc, ◌+◌, ◌-◌, ◌<◌, ◌≤◌, Bool, true, false, not, List, [], ◌∷◌, ◌++◌, leb, length, length-append, drop, take, refl, sym, ap, ◌∙◌, arith, Option, Some, None}
-use Rattle.std.specs.Prelude.{◌&&◌, IsTrue, is_some}
+use Rattle.std.specs.Prelude.{◌&&◌, ◌||◌, IsTrue, bytes_eq, is_some}
 use Rattle.std.specs.List.{count_by, join_with_byte, list_any}
 use Rattle.std.proofs.lemmas.Bool.{and_from, and_parts, false≢true, lt-leb}
 use Rattle.std.proofs.lemmas.List.{take-append-drop}
 use Rattle.std.proofs.lemmas.List.Splits.{length-slice_split}
+use Rattle.std.proofs.lemmas.Slice.Eq.{bytes_eq-Decides}
 use Rattle.std.proofs.Math.Seq.{drop-append_seam}
 use Rattle.uriparse_text.specs.Address.{ipv4_reading}
 use Rattle.uriparse_text.specs.Bytes.{dot}
@@ -12,7 +13,8 @@ use Rattle.uriparse_text.specs.Ends.{EndsWith}
 use Rattle.uriparse_text.proofs.lemmas.addresses.Ipv4Lemmas.{IsOctets-SpellsIpv4, printed_alone}
 use Rattle.uriparse_text.proofs.lemmas.addresses.LengthLemmas.{length-ipv4_text}
 use Rattle.uriparse_text.proofs.lemmas.addresses.ReadingLemmas.{ipv4_reading-found}
-use Rattle.uriparse_authority.specs.Within.{IsNameWithin, are_plain, is_address, is_dot, is_empty, last_label, without_end_dot}
+use Rattle.uriparse_authority.specs.Within.{IsNameWithin, are_plain, has_escape, is_address, is_dot, is_empty, last_label, without_end_dot}
+use Rattle.uriparse_authority.proofs.lemmas.hosts.EndDotLemmas.{escape-end}
 use Rattle.uriparse_authority.proofs.lemmas.authorities.SameTextLemmas.{text_put}
 use Rattle.uriparse_authority.proofs.lemmas.hosts.WithinLemmas.{joined-pieces, pieces, pieces-injective}
 
@@ -44,6 +46,13 @@ address_long buffer t n h long =
     lt-leb n 15 long ∙ sym (address_short t many)
 
 -- ---- labels
+
+-- two lists of labels differ, label by label, or in their lengths
+abbrev pub pointwise_differ : List (List ℕ) → List (List ℕ) → Bool
+pointwise_differ [] [] = false
+pointwise_differ [] (m ∷ ms) = true
+pointwise_differ (l ∷ ls) [] = true
+pointwise_differ (l ∷ ls) (m ∷ ms) = not (bytes_eq l m) || pointwise_differ ls ms
 
 pub last-left : (ls : List (List ℕ)) (n : ℕ) → length ls ≡ n + 1 → drop n ls ≡ last_label ls ∷ []
 last-left [] n e = absurd (omega (arith, e))
@@ -94,14 +103,33 @@ within_by name domain t u r s e f ends plain = (
       let both = and_parts r s h in
       let first = and_parts _ _ (sym plain ∙ both.1) in
       let second = and_parts _ _ first.1 in
+      let third = and_parts _ _ second.1 in
+      let fourth = and_parts _ _ third.1 in
       let left = ends.0 both.0 in
       record {
         full = ap (λ x. list_any is_empty (pieces x)) (sym e) ∙ not_true _ first.0;
-        plain = ap is_address (sym e) ∙ not_true _ second.0;
-        plain_domain = ap is_address (sym f) ∙ not_true _ second.1;
+        unescaped = sym (escape-end name) ∙ ap has_escape (sym e) ∙ not_true _ second.0;
+        unescaped_domain = sym (escape-end domain) ∙ ap has_escape (sym f) ∙ not_true _ third.0;
+        plain = ap is_address (sym e) ∙ not_true _ fourth.0;
+        plain_domain = ap is_address (sym f) ∙ not_true _ fourth.1;
         ends = (left.0, ap pieces (sym e) ∙ left.1 ∙ ap (λ x. left.0 ++ pieces x) f);
       },
   λ is. and_from r s (ends.1 (is.ends.0, ap pieces e ∙ is.ends.1 ∙ ap (λ x. is.ends.0 ++ pieces x) (sym f)))
       (plain ∙ and_from _ _ (ap (λ x. not (list_any is_empty (pieces x))) e ∙ ap not is.full)
-      (and_from _ _ (ap (λ x. not (is_address x)) e ∙ ap not is.plain) (ap (λ x. not (is_address x)) f ∙ ap not is.plain_domain))),
+      (and_from _ _ (ap not (ap has_escape e ∙ escape-end name ∙ is.unescaped))
+      (and_from _ _ (ap not (ap has_escape f ∙ escape-end domain ∙ is.unescaped_domain))
+      (and_from _ _ (ap (λ x. not (is_address x)) e ∙ ap not is.plain) (ap (λ x. not (is_address x)) f ∙ ap not is.plain_domain))))),
 )
+
+-- labels that don't end with these ones
+pub no_end : (ls ms : List (List ℕ)) → pointwise_differ (drop (length ls - length ms) ls) ms ≡ true → (front : List (List ℕ)) → ls ≡ front ++ ms → ⊥
+no_end ls ms h front e =
+    let sizes = ap length e in
+    let sum = length-append front ms in
+    let many : length ls - length ms ≡ length front = omega (arith, sizes, sum) in
+    let rest : drop (length ls - length ms) ls ≡ ms = ap (λ n. drop n ls) many ∙ ap (drop (length front)) e ∙ drop-append_seam front ms in
+    false≢true (sym (none_differ ms) ∙ ap (λ l. pointwise_differ l ms) (sym rest) ∙ h)
+  where
+    none_differ : (ms : List (List ℕ)) → pointwise_differ ms ms ≡ false
+    none_differ [] = refl
+    none_differ (m ∷ ms) = ap (λ v. not v || pointwise_differ ms ms) ((bytes_eq-Decides m m).1 refl) ∙ none_differ ms

@@ -9,7 +9,7 @@ use Rattle.uriparse_text.proofs.lemmas.addresses.ReadingLemmas.{ipv4_reading-fou
 use Rattle.uriparse_authority.specs.declared.authority.host.Host.{Host}
 use Rattle.uriparse_authority.specs.declared.authority.host.Host.TheVariants.{IPv4Address, IPv6Address, IPvFuture, RegisteredName}
 use Rattle.uriparse_authority.specs.Host.{Kind, canonical_text, key, kind}
-use Rattle.uriparse_authority.specs.Within.{EndsWithName, IsNameWithin, IsWithin, hides_address, is_address, labels, without_end_dot}
+use Rattle.uriparse_authority.specs.Within.{EndsWithName, IsNameWithin, IsWithin, has_escape, has_escapes, hides_address, is_address, labels, without_end_dot}
 use Rattle.uriparse_authority.proofs.lemmas.hosts.EndDotLemmas.{address_end}
 use Rattle.uriparse_authority.proofs.lemmas.hosts.HostLemmas.{same_host}
 use Rattle.uriparse_authority.proofs.lemmas.hosts.WithinLemmas.{cut, joined-pieces, pieces}
@@ -38,6 +38,8 @@ within_equals g h c d e f (inr w) = inr (named_equals g h c d e f w)
 name_again : (t u v : List ℕ) → IsNameWithin t u → IsNameWithin u v → IsNameWithin t v
 name_again t u v w x = record {
   full = w.full;
+  unescaped = w.unescaped;
+  unescaped_domain = x.unescaped_domain;
   plain = w.plain;
   plain_domain = x.plain_domain;
   ends = (
@@ -75,6 +77,19 @@ pub within_hidden : (h d : Host) → (hides_address h ≡ true) ⊎ (hides_addre
 within_hidden h d hidden (inl e) = e
 within_hidden h d (inl e) (inr w) = absurd (address_kept _ (hidden_text h e) w.2.plain)
 within_hidden h d (inr e) (inr w) = absurd (address_kept _ (hidden_text d e) w.2.plain_domain)
+
+-- ---- escapes
+
+escaped_text : (h : Host) → has_escapes h ≡ true → has_escape (canonical_text h) ≡ true
+escaped_text (IPv4Address a) e = absurd (false≢true e)
+escaped_text (IPv6Address a) e = absurd (false≢true e)
+escaped_text (IPvFuture f) e = absurd (false≢true e)
+escaped_text (RegisteredName n) e = e
+
+pub within_escaped : (h d : Host) → (has_escapes h ≡ true) ⊎ (has_escapes d ≡ true) → IsWithin h d → key h ≡ key d
+within_escaped h d escaped (inl e) = e
+within_escaped h d (inl e) (inr w) = absurd (false≢true (sym w.2.unescaped ∙ escaped_text h e))
+within_escaped h d (inr e) (inr w) = absurd (false≢true (sym w.2.unescaped_domain ∙ escaped_text d e))
 
 -- ---- labels and bytes
 

@@ -1,19 +1,25 @@
 -- The labels of names, and walks over their texts.
 use Rattle.std.proofs.Common.{◌≡◌, ℕ, zero, suc, ◌+◌, ◌-◌, ◌<◌, Bool, true, false, cond, not, List, [], ◌∷◌, ◌++◌, length, drop, get_or, refl, sym, ap, ◌∙◌, subst, arith, ◌⊎◌, inl, inr}
-use Rattle.std.specs.Prelude.{◌||◌}
+use Rattle.std.specs.Prelude.{◌==◌, ◌&&◌, ◌||◌}
 use Rattle.std.specs.Char.{is_ascii_digit, is_digit, to_ascii_lowercase, to_ascii_uppercase}
 use Rattle.std.specs.List.{list_all, list_any, count_by, slice_split, onto_first, join_with_byte}
 use Rattle.std.proofs.lemmas.Bool.{and_parts, and_from, not-true, false≢true, ne_eqb}
 use Rattle.std.proofs.lemmas.Bool.Decides.{nat_tests}
+use Rattle.std.proofs.lemmas.List.Folds.{list_any-append}
+use Rattle.std.proofs.Math.Bool.{or-false}
 use Rattle.std.proofs.lemmas.List.Splits.{slice_split-cons_yes, slice_split-cons_no, length-slice_split, join_with_byte-slice_split}
 use Rattle.uriparse_text.specs.declared.internal.token.Token.TheVariants.{Byte, Escape}
 use Rattle.uriparse_text.specs.declared.internal.token.Case.TheVariants.{Lowered}
 use Rattle.uriparse_text.specs.Bytes.{dot, is_hex, is_unreserved, percent}
 use Rattle.uriparse_text.specs.Canonical.{canonical_lowered, canonical_token, escaped_byte}
 use Rattle.uriparse_text.specs.Tokens.{is_escape, is_token, is_well_formed, spell, tokens}
-use Rattle.uriparse_text.proofs.lemmas.canonical.CanonicalLemmas.{by_escaped, canonical_in-cons, canonical_in-nil}
+use Rattle.uriparse_text.proofs.lemmas.canonical.CanonicalLemmas.{canonical_in-cons, canonical_in-nil}
 use Rattle.uriparse_text.proofs.lemmas.tokens.TokenLemmas.{escape_at, tokens-byte, tokens-escape}
-use Rattle.uriparse_authority.specs.Within.{BeginsWithOctet, HasOctet, begins_with_digit, is_dot, is_empty, is_escaped_digit, is_escaped_dot}
+use Rattle.uriparse_authority.specs.Within.{BeginsWithOctet, HasOctet, begins_with_digit, has_escape, is_dot, is_empty, is_percent}
+
+-- "%2E", by its digits
+abbrev pub is_escaped_dot : ℕ → ℕ → Bool
+is_escaped_dot high low = high == 50 && (low == 69 || low == 101)
 
 -- ---- pieces between dots
 
@@ -138,6 +144,15 @@ module _ (octet : ℕ) (t rest : List ℕ) (is : BeginsWithOctet octet t rest) w
       by_dot true d = empty-dot d ∙ ap (λ v. empties v (canonical_lowered t)) (sym e)
       by_dot false d = empty-other begins d
 
+  pub escape-step : has_escape (canonical_lowered t) ≡ (is_percent octet || has_escape (canonical_lowered rest))
+  escape-step = ap has_escape is.whole ∙ list_any-append is_percent is.front (canonical_lowered rest) ∙ ap (λ v. v || has_escape (canonical_lowered rest)) is.has.escape
+
+  pub escape-found : octet ≡ 37 → has_escape (canonical_lowered t) ≡ true
+  escape-found e = escape-step ∙ ap (λ b. is_percent b || has_escape (canonical_lowered rest)) e
+
+  pub escape-other : (octet ≡ 37 → ⊥) → has_escape (canonical_lowered rest) ≡ has_escape (canonical_lowered t)
+  escape-other n = sym (escape-step ∙ ap (λ v. v || has_escape (canonical_lowered rest)) (ne_eqb octet percent n))
+
   pub digit-first : begins_with_digit (canonical_lowered t) ≡ is_digit octet 10
   digit-first = ap begins_with_digit is.whole ∙ by_front is.front is.has.some ∙ is.has.first
     where
@@ -147,6 +162,9 @@ module _ (octet : ℕ) (t rest : List ℕ) (is : BeginsWithOctet octet t rest) w
 
 pub count-nil : (t : List ℕ) → t ≡ [] → count_by is_dot (canonical_lowered t) ≡ 0
 count-nil t e = ap (λ u. count_by is_dot (canonical_lowered u)) e ∙ ap (count_by is_dot) (canonical_in-nil Lowered)
+
+pub escapes-nil : (t : List ℕ) → t ≡ [] → has_escape (canonical_lowered t) ≡ false
+escapes-nil t e = ap (λ u. has_escape (canonical_lowered u)) e ∙ ap has_escape (canonical_in-nil Lowered)
 
 pub empties-nil : (begins : Bool) (t : List ℕ) → t ≡ [] → empties begins (canonical_lowered t) ≡ begins
 empties-nil begins t e = ap (λ u. empties begins (canonical_lowered u)) e ∙ ap (empties begins) (canonical_in-nil Lowered) ∙ by_begins begins
@@ -160,12 +178,13 @@ empties-nil begins t e = ap (λ u. empties begins (canonical_lowered u)) e ∙ a
 pub ascii_digit : (b : ℕ) → is_ascii_digit b ≡ is_digit b 10
 ascii_digit b = grind (arith, nat_tests)
 
-byte-octet : (b c : ℕ) → is_dot c ≡ is_dot b → is_digit c 10 ≡ is_digit b 10 → HasOctet b (c ∷ [])
-byte-octet b c e f = record {
+byte-octet : (b c : ℕ) → is_dot c ≡ is_dot b → is_digit c 10 ≡ is_digit b 10 → is_percent c ≡ is_percent b → HasOctet b (c ∷ [])
+byte-octet b c e f g = record {
   some = omega arith;
   single = λ h. let same : c ≡ dot = grind (arith, nat_tests) in ap (λ x. x ∷ []) same;
   others = λ h. rw (e, h) refl;
   first = f;
+  escape = or-false (is_percent c) ∙ g;
 }
 
 lower_dot : (b : ℕ) → is_dot (to_ascii_lowercase b) ≡ is_dot b
@@ -174,68 +193,29 @@ lower_dot b = grind (arith, nat_tests)
 lower_digit : (b : ℕ) → is_digit (to_ascii_lowercase b) 10 ≡ is_digit b 10
 lower_digit b = grind (arith, nat_tests)
 
+lower_percent : (b : ℕ) → is_percent (to_ascii_lowercase b) ≡ is_percent b
+lower_percent b = grind (arith, nat_tests)
+
 pub octet-byte : (b : ℕ) → HasOctet b (spell (canonical_token Lowered (Byte b)))
-octet-byte b = byte-octet b (to_ascii_lowercase b) (lower_dot b) (lower_digit b)
-
-digit-octet : (b : ℕ) → is_digit b 10 ≡ true → HasOctet b (b ∷ [])
-digit-octet b d = byte-octet b b refl refl
-
-dot_value : (high low : ℕ) → is_escaped_dot high low ≡ true → escaped_byte high low ≡ 46
-dot_value high low e = grind (arith, nat_tests)
-
-digit_value_of : (high low : ℕ) → is_escaped_digit high low ≡ true → escaped_byte high low ≡ low
-digit_value_of high low e = grind (arith, nat_tests)
+octet-byte b = byte-octet b (to_ascii_lowercase b) (lower_dot b) (lower_digit b) (lower_percent b)
 
 pub value_dot : (high low : ℕ) → is_hex high ≡ true → is_hex low ≡ true → is_escaped_dot high low ≡ false → (escaped_byte high low ≡ 46) → ⊥
 value_dot high low h k e f = grind (arith, nat_tests)
 
-value_digit : (high low : ℕ) → is_hex high ≡ true → is_hex low ≡ true → is_escaped_digit high low ≡ false → is_digit (escaped_byte high low) 10 ≡ false
-value_digit high low h k e = grind (arith, nat_tests)
+-- an escape of an unreserved byte
+pub octet-unreserved : (high low : ℕ) → is_unreserved (escaped_byte high low) ≡ true → HasOctet (escaped_byte high low) (spell (canonical_token Lowered (Escape high low)))
+octet-unreserved high low u =
+    subst (λ v. HasOctet (escaped_byte high low) (spell (cond v (Byte (to_ascii_lowercase (escaped_byte high low))) (Escape (to_ascii_uppercase high) (to_ascii_uppercase low)))))
+    (sym u) (octet-byte (escaped_byte high low))
 
-unreserved_digit : (b : ℕ) → is_digit b 10 ≡ true → is_unreserved b ≡ true
-unfolding is_unreserved
-unreserved_digit b d = grind (arith, nat_tests)
-
-digit_low : (high low : ℕ) → is_escaped_digit high low ≡ true → is_digit low 10 ≡ true
-digit_low high low e = (and_parts _ _ e).1
-
-kept_digit : (b : ℕ) → is_digit b 10 ≡ true → to_ascii_lowercase b ≡ b
-kept_digit b d = grind (arith, nat_tests)
-
-unescaped : (high low b : ℕ) → escaped_byte high low ≡ b → is_unreserved b ≡ true → canonical_token Lowered (Escape high low) ≡ Byte (to_ascii_lowercase b)
-unescaped high low b e u =
-    ap (λ v. cond v (Byte (to_ascii_lowercase (escaped_byte high low))) (Escape (to_ascii_uppercase high) (to_ascii_uppercase low))) (ap is_unreserved e ∙ u)
-    ∙ ap (λ c. Byte (to_ascii_lowercase c)) e
-
-dot_unreserved : is_unreserved 46 ≡ true
-unfolding is_unreserved
-dot_unreserved = refl
-
-pub octet-dot : (high low : ℕ) → is_escaped_dot high low ≡ true → HasOctet 46 (spell (canonical_token Lowered (Escape high low)))
-octet-dot high low e =
-    subst (λ t. HasOctet 46 (spell t)) (sym (unescaped high low 46 (dot_value high low e) dot_unreserved)) (byte-octet 46 46 refl refl)
-
-pub octet-digit : (high low : ℕ) → is_escaped_digit high low ≡ true → HasOctet low (spell (canonical_token Lowered (Escape high low)))
-octet-digit high low e =
-    let digit = digit_low high low e in
-    subst (λ t. HasOctet low (spell t)) (sym (unescaped high low low (digit_value_of high low e) (unreserved_digit low digit))) (octet-byte low)
-
--- another byte, or an escape that stays
-pub octet-other : (high low : ℕ) → is_hex high ≡ true → is_hex low ≡ true → is_escaped_dot high low ≡ false → is_escaped_digit high low ≡ false
+-- another escape, which stays
+pub octet-kept : (high low : ℕ) → is_hex high ≡ true → is_hex low ≡ true → is_unreserved (escaped_byte high low) ≡ false
     → HasOctet 37 (spell (canonical_token Lowered (Escape high low)))
-octet-other high low h k e f =
-    by_escaped Lowered high low (λ t. HasOctet 37 (spell t)) (λ u. plain (escaped_byte high low) (value_dot high low h k e) (value_digit high low h k f))
-    (λ u. record { some = omega arith; single = λ n. absurd (false≢true n); others = digits; first = refl })
+octet-kept high low h k u =
+    subst (λ v. HasOctet 37 (spell (cond v (Byte (to_ascii_lowercase (escaped_byte high low))) (Escape (to_ascii_uppercase high) (to_ascii_uppercase low)))))
+    (sym u)
+    (record { some = omega arith; single = λ n. absurd (false≢true n); others = digits; first = refl; escape = refl })
   where
-    plain : (b : ℕ) → (b ≡ 46 → ⊥) → is_digit b 10 ≡ false → HasOctet 37 (to_ascii_lowercase b ∷ [])
-    plain b n d =
-        let other : is_dot b ≡ false = grind (arith, nat_tests) in record {
-          some = omega arith;
-          single = λ m. absurd (false≢true m);
-          others = λ m. rw (lower_dot b, other) refl;
-          first = lower_digit b ∙ d;
-        }
-
     upper_no_dot : (b : ℕ) → is_hex b ≡ true → not (is_dot (to_ascii_uppercase b)) ≡ true
     upper_no_dot b x = grind (arith, nat_tests)
 

@@ -1,8 +1,8 @@
 -- What dot removal leaves of segments, read from the last one to the first.
-use Rattle.std.proofs.Common.{◌≡◌, ℕ, zero, suc, ◌+◌, ◌<◌, ◌≤◌, Bool, true, false, cond, List, [], ◌∷◌, ◌++◌, length, length-append, map, refl, sym, ap, ◌∙◌, subst, arith, append-nil, append_assoc, ◌||◌}
-use Rattle.uriparse_path.specs.Dots.{is_single_dot, is_double_dot, is_dot_segment}
+use Rattle.std.proofs.Common.{◌≡◌, ℕ, zero, suc, ◌+◌, ◌≤◌, Bool, true, false, cond, List, [], ◌∷◌, ◌++◌, length, length-append, refl, sym, ap, ◌∙◌, arith}
+use Rattle.uriparse_path.specs.Dots.{is_single_dot, is_double_dot}
 use Rattle.uriparse_path.specs.Relative.{is_last}
-use Rattle.uriparse_path.specs.Remaining.{Remaining, nothing, process_all, process_one, process_plain, remaining_of, with_end}
+use Rattle.uriparse_path.specs.Remaining.{Remaining, nothing, process_all, process_one, process_plain, remaining_of}
 use Rattle.uriparse_path.specs.Within.{EndsWithKept}
 use Rattle.uriparse_path.proofs.lemmas.left.BackwardLemmas.{process_all-append}
 use Rattle.uriparse_path.proofs.lemmas.normal.RelativeLengthLemmas.{last_push}

@@ -1,7 +1,6 @@
 -- Paths within the directories of others, by what is left of their segments.
-use Rattle.std.proofs.Common.{◌≡◌, ◌↔◌, ℕ, zero, suc, ◌+◌, ◌-◌, ◌*◌, ◌^◌, ◌<◌, ◌≤◌, Bool, true, false, cond, not, List, [], ◌∷◌, ◌++◌, length, length-append, map, take, drop, length-drop, refl, sym, ap, ◌∙◌, subst, arith, append-nil, append_assoc, ◌||◌, Option, Some, None}
+use Rattle.std.proofs.Common.{◌≡◌, ◌↔◌, ℕ, zero, suc, ◌+◌, ◌-◌, ◌^◌, ◌<◌, ◌≤◌, Bool, true, false, cond, not, List, [], ◌∷◌, ◌++◌, length, length-append, map, take, drop, length-drop, refl, sym, ap, ◌∙◌, subst, arith, append_assoc, ◌||◌, Option, Some, None}
 use Rattle.std.specs.Prelude.{◌&&◌, IsTrue, bytes_eq}
-use Rattle.std.specs.List.{list_any}
 use Rattle.std.proofs.lemmas.Bool.{cond-false, false≢true, not-false}
 use Rattle.std.proofs.lemmas.List.{map-append, take-append-drop, length-map}
 use Rattle.std.proofs.lemmas.List.Folds.{list_any-append}
@@ -14,9 +13,9 @@ use Rattle.uriparse_text.specs.Canonical.{canonical}
 use Rattle.uriparse_text.proofs.lemmas.canonical.DotLemmas.{canonical-nil}
 use Rattle.uriparse_path.specs.Path.{IsListed, PathParts, has_hidden_root, max_segments, respelled, starts_with_empty_segment}
 use Rattle.uriparse_path.specs.Dots.{all_but_last, is_single_dot, is_double_dot, is_dot_segment, replay, replayed, rooted_after}
-use Rattle.uriparse_path.specs.Normal.{canonical_path, pnormal}
+use Rattle.uriparse_path.specs.Normal.{pnormal}
 use Rattle.uriparse_path.specs.Relative.{is_last}
-use Rattle.uriparse_path.specs.Remaining.{Remaining, nothing, process_all, process_one, process_plain, remaining_of, with_end}
+use Rattle.uriparse_path.specs.Remaining.{Remaining, process_one, process_plain, remaining_of, with_end}
 use Rattle.uriparse_path.specs.Within.{AreFew, AreWithin, HasDirectory, MeetsAmbiguous, Skips, between_slashes, has_ambiguous, led, normal_left}
 use Rattle.uriparse_path.proofs.lemmas.dots.ReplayLemmas.{replay_some}
 use Rattle.uriparse_path.proofs.lemmas.left.RemainingLemmas.{replay_left, rooted_left}
@@ -160,7 +159,7 @@ skips_more n more all now front rest s whole sum some cut h plain = (
 
 -- ---- directories
 
-length_mapped : (ss : List (List ℕ)) → length (map canonical ss) ≡ length ss
+pub length_mapped : (ss : List (List ℕ)) → length (map canonical ss) ≡ length ss
 length_mapped ss = length-map ss canonical
 
 too_short : (ps ds : List (List ℕ)) → length ps ≤ length ds → HasDirectory (map canonical ps) (map canonical ds) → ⊥
@@ -176,7 +175,7 @@ pub no_directory : (ps ds : List (List ℕ)) → length ps ≤ length ds → IsT
 no_directory ps ds less = (λ h. absurd (false≢true h), λ h. absurd (too_short ps ds less h))
 
 -- both lists are cut at one place
-same_cut : (a b c d : List (List ℕ)) → a ++ b ≡ c ++ d → length a ≡ length c → (a ≡ c) × (b ≡ d)
+pub same_cut : (a b c d : List (List ℕ)) → a ++ b ≡ c ++ d → length a ≡ length c → (a ≡ c) × (b ≡ d)
 same_cut a b c d e size = (
   sym (take-append_seam a b) ∙ ap (take (length a)) e ∙ ap (λ n. take n (c ++ d)) size ∙ take-append_seam c d,
   sym (drop-append_seam a b) ∙ ap (drop (length a)) e ∙ ap (λ n. drop n (c ++ d)) size ∙ drop-append_seam c d,
@@ -216,7 +215,7 @@ plain_directory ps ds front n r less size skips iff =
 
 -- ---- a base
 
-but_last : (bs ds : List (List ℕ)) (last : List ℕ) → bs ≡ ds ++ last ∷ [] → all_but_last (map canonical bs) ≡ map canonical ds
+pub but_last : (bs ds : List (List ℕ)) (last : List ℕ) → bs ≡ ds ++ last ∷ [] → all_but_last (map canonical bs) ≡ map canonical ds
 but_last bs ds last e = ap all_but_last (ap (map canonical) e ∙ push-canonical ds last) ∙ all_but_last_push (map canonical ds) (canonical last)
 
 one_only : (bs ds : List (List ℕ)) (last : List ℕ) → bs ≡ ds ++ last ∷ [] → length (map canonical bs) ≡ length ds + 1

@@ -157,7 +157,7 @@ at_most (Escape high low ∷ ts) =
     one_byte true = omega arith
     one_byte false = omega arith
 
-canonical_length : (s : List ℕ) → length s ≤ 3 * length (canonical s)
+pub canonical_length : (s : List ℕ) → length s ≤ 3 * length (canonical s)
 unfolding canonical_in
 canonical_length s = subst (λ t. length t ≤ 3 * length (canonical s)) (spell-tokens s) (at_most (tokens s))
 

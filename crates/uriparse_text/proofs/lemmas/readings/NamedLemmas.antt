@@ -1,9 +1,10 @@
 -- Pairs of a query by their names, and a pair that is appended.
 use Rattle.std.proofs.Common.{◌≡◌, ◌⊎◌, inl, inr, ℕ, Bor, ◌-◌, Bool, true, false, List, [], ◌∷◌, ◌++◌, length, take, drop, map, flat_map, Option, Some, None, refl, sym, ap, subst, ◌∙◌, append-nil, append_assoc, arith, suc}
-use Rattle.std.specs.Prelude.{◌==◌, ◌↔◌, ◌&&◌, ◌||◌, bytes_eq, not, cond, IfSome, unwrap_or}
+use Rattle.std.specs.Prelude.{◌==◌, ◌↔◌, ◌&&◌, ◌||◌, bytes_eq, codes, not, cond, IfSome, unwrap_or}
 use Rattle.std.specs.Option.{option_copied}
 use Rattle.std.specs.List.{find, filter, list_any, onto_first, slice_split, starts_with, ends_with}
-use Rattle.std.proofs.lemmas.Bool.{eqb-true, false≢true}
+use Rattle.std.proofs.lemmas.Bool.{and_parts, eqb-true, false≢true}
+use Rattle.std.proofs.lemmas.Bool.Decides.{nat_tests}
 use Rattle.std.specs.Cmp.Lexicographic.{slice_cmp}
 use Rattle.std.specs.Ordering.{is_eq, nat_cmp}
 use Rattle.std.specs.declared.cmp.Ordering.{Ordering}
@@ -14,17 +15,17 @@ use Rattle.std.proofs.lemmas.List.Folds.{list_any-append}
 use Rattle.std.proofs.lemmas.List.Splits.{slice_split-cons_yes, slice_split-cons_no}
 use Rattle.std.proofs.lemmas.List.{length-append, map-append}
 use Rattle.uriparse_text.specs.Bytes.{ampersand, asterisk, equals_sign}
-use Rattle.uriparse_text.specs.Cuts.{before, after, following}
-use Rattle.uriparse_text.specs.Coding.{decoded, value_of}
+use Rattle.uriparse_text.specs.Cuts.{before, after, following, lacks}
+use Rattle.uriparse_text.specs.Coding.{are_bytes, decoded, value_of}
 use Rattle.uriparse_text.specs.Tokens.{tokens}
 use Rattle.uriparse_text.specs.declared.internal.token.Token.{Token}
 use Rattle.uriparse_text.specs.Query.{IsQuery}
 use Rattle.uriparse_text.specs.declared.internal.class.Class.TheVariants.{Query}
-use Rattle.uriparse_text.specs.Pairs.{Pair, is_ampersand, is_among_names, is_empty_end, is_named, joined_pairs, pair_of, pairs, pairs_left, piece_of, stands_for, without_empty_end, without_name, without_names}
+use Rattle.uriparse_text.specs.Pairs.{Pair, encoded_in_pair, is_ampersand, is_among_names, is_empty_end, is_named, joined_pairs, pair_of, pairs, pairs_left, piece_of, stands_for, without_empty_end, without_name, without_names}
 use Rattle.uriparse_text.specs.Written.{EndsOpen, IsFirstAt}
 use Rattle.uriparse_text.proofs.lemmas.tokens.CodingLemmas.{decoded-cons, decoded-nil}
 use Rattle.uriparse_text.proofs.lemmas.readings.CutLemmas.{before_after}
-use Rattle.uriparse_text.proofs.lemmas.readings.PairLemmas.{ampersand_plain, first_pair, first_piece, in_both, in_join, joined-pairs, joined_query, pieces_left, query_pieces, pair_texts}
+use Rattle.uriparse_text.proofs.lemmas.readings.PairLemmas.{ampersand_plain, decoded-encoded_without, first_pair, first_piece, in_both, in_join, joined-pairs, joined_query, name_lacks, pieces_left, query_pieces, pair_texts}
 use Rattle.uriparse_text.proofs.lemmas.readings.SetLemmas.{end_alone}
 
 -- ---- the pairs before and after a "&"
@@ -345,3 +346,23 @@ one_name n ps plain = same_left (is_among_names (n ∷ [])) (is_named (decoded n
         or_no (stands_for n.0 p.0)
         ∙ ap (λ v. cond v (starts_with (λ b c. b == c) (decoded p.0) (decoded (take (length n.0 - 1) n.0))) (bytes_eq (decoded n.0) (decoded p.0))) plain
         ∙ turned (decoded n.0) (decoded p.0) (bytes_eq (decoded n.0) (decoded p.0)) (bytes_eq (decoded p.0) (decoded n.0)) refl refl
+
+-- ---- a name that is data
+
+-- a text without "*" doesn't end in one
+no_asterisk : (t : List ℕ) → lacks asterisk t ≡ true → ends_with (λ b c. b == c) t (asterisk ∷ []) ≡ false
+no_asterisk [] h = refl
+no_asterisk (b ∷ []) h = by_byte (b == asterisk) refl
+  where
+    by_byte : (v : Bool) → (b == asterisk) ≡ v → ends_with (λ b c. b == c) (b ∷ []) (asterisk ∷ []) ≡ false
+    by_byte true e = absurd (false≢true (sym (ap not e) ∙ (and_parts _ _ h).0))
+    by_byte false e = grind (arith, nat_tests)
+no_asterisk (b ∷ c ∷ t) h =
+    let size : length (b ∷ c ∷ t) - 1 ≡ suc (length (c ∷ t) - 1) = omega arith in
+    rw (size) (no_asterisk (c ∷ t) (and_parts _ _ h).1)
+
+pub named_data : (name : List ℕ) (o : Option (List ℕ)) (ps : List Pair) → are_bytes name ≡ true
+    → without_names ((encoded_in_pair name, o) ∷ []) ps ≡ without_name name ps
+named_data name o ps h =
+    one_name (encoded_in_pair name, o) ps (no_asterisk (encoded_in_pair name) (name_lacks asterisk refl refl refl name))
+    ∙ ap (λ n. without_name n ps) (decoded-encoded_without Query (codes "&=+*") name h)

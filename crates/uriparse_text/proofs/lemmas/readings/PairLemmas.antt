@@ -185,9 +185,9 @@ module _ (class : Class) (without : List ℕ) where
 
 -- ---- written pairs are read back
 
-name_lacks : (mark : ℕ) → is_among (codes "&=+") mark ≡ true → not (percent == mark) ≡ true → is_hex mark ≡ false → (bytes : List ℕ)
+pub name_lacks : (mark : ℕ) → is_among (codes "&=+*") mark ≡ true → not (percent == mark) ≡ true → is_hex mark ≡ false → (bytes : List ℕ)
     → lacks mark (encoded_in_pair bytes) ≡ true
-name_lacks mark excluded sign digit bytes = encoded_without-lacks Query (codes "&=+") mark excluded sign digit bytes
+name_lacks mark excluded sign digit bytes = encoded_without-lacks Query (codes "&=+*") mark excluded sign digit bytes
 
 value_lacks : (o : Option (List ℕ)) → IfSome (option_map encoded_in_pair o) (λ t. lacks ampersand t ≡ true)
 value_lacks None = tt
@@ -222,12 +222,12 @@ pairs-joined (p ∷ ps) h =
 
 decoded_value : (o : Option (List ℕ)) → are_bytes (unwrap_or o []) ≡ true → option_map decoded (option_map encoded_in_pair o) ≡ o
 decoded_value None h = refl
-decoded_value (Some t) h = ap Some (decoded-encoded_without Query (codes "&=+") t h)
+decoded_value (Some t) h = ap Some (decoded-encoded_without Query (codes "&=+*") t h)
 
 pub pair_decoded : (p : Pair) → are_pair_bytes p ≡ true → decoded_pair (encoded_pair p) ≡ p
 pair_decoded p h =
     let bytes = and_parts (are_bytes p.0) (are_bytes (unwrap_or p.1 [])) h in
-    rw (decoded-encoded_without Query (codes "&=+") p.0 bytes.0, decoded_value p.1 bytes.1) refl
+    rw (decoded-encoded_without Query (codes "&=+*") p.0 bytes.0, decoded_value p.1 bytes.1) refl
 
 all_decoded : (ps : List Pair) → list_all are_pair_bytes ps ≡ true → map decoded_pair (map encoded_pair ps) ≡ ps
 all_decoded [] h = refl
@@ -256,15 +256,15 @@ pub piece_query : (p : Pair) → IsQuery (piece_of (encoded_pair p))
 piece_query p = by_value p.1
   where
     name : IsQuery (encoded_in_pair p.0)
-    name = IsIn-encoded_without Query (codes "&=+") p.0
+    name = IsIn-encoded_without Query (codes "&=+*") p.0
 
     by_value : (o : Option (List ℕ)) → IsQuery (encoded_in_pair p.0 ++ following equals_sign (option_map encoded_in_pair o))
     by_value None = subst IsQuery (sym (append-nil (encoded_in_pair p.0))) name
     by_value (Some t) =
-        in_join (encoded_in_pair p.0) (encoded_in_pair t) equals_sign refl refl equals_sign_plain name (IsIn-encoded_without Query (codes "&=+") t)
+        in_join (encoded_in_pair p.0) (encoded_in_pair t) equals_sign refl refl equals_sign_plain name (IsIn-encoded_without Query (codes "&=+*") t)
 
 pub joined_query : (ps : List Pair) → IsQuery (joined_pairs (map encoded_pair ps))
-joined_query [] = IsIn-encoded_without Query (codes "&=+") []
+joined_query [] = IsIn-encoded_without Query (codes "&=+*") []
 joined_query (p ∷ []) = piece_query p
 joined_query (p ∷ r ∷ ps) =
     in_join (piece_of (encoded_pair p)) (joined_pairs (map encoded_pair (r ∷ ps))) ampersand refl refl ampersand_plain (piece_query p) (joined_query (r ∷ ps))

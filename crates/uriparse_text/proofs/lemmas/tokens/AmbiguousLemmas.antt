@@ -1,21 +1,18 @@
 -- Escapes that servers take for different bytes.
-use Rattle.std.proofs.Common.{◌≡◌, ℕ, Bool, true, false, cond, List, [], ◌∷◌, ◌++◌, append-nil, length, length-append, ◌<◌, ◌≤◌, arith, refl, sym, ap, ◌∙◌}
-use Rattle.std.specs.Prelude.{◌==◌, ◌||◌, Option, Some, None}
-use Rattle.std.specs.List.{list_all, list_any}
-use Rattle.std.proofs.lemmas.Bool.{and_parts}
-use Rattle.std.proofs.lemmas.List.Folds.{list_all-append}
+use Rattle.std.proofs.Common.{◌≡◌, ℕ, Bool, true, false, cond, List, [], ◌∷◌, ◌++◌, length, length-append, ◌<◌, ◌≤◌, arith, refl, sym, ap, ◌∙◌}
+use Rattle.std.specs.Prelude.{◌==◌, ◌&&◌, ◌||◌, bytes_eq}
+use Rattle.std.specs.List.{list_any}
+use Rattle.std.proofs.lemmas.Bool.{false≢true}
+use Rattle.std.proofs.Math.Bool.{and-false}
 use Rattle.uriparse_text.specs.declared.internal.token.Token.TheVariants.{Byte, Escape}
 use Rattle.uriparse_text.specs.declared.internal.token.Token.{Token}
-use Rattle.uriparse_text.specs.declared.internal.class.Class.TheVariants.{Segment}
-use Rattle.uriparse_text.specs.Ambiguous.{has_ambiguous_escape, is_ambiguous_token, semicolon}
-use Rattle.uriparse_text.specs.Bytes.{percent}
-use Rattle.uriparse_text.specs.Cuts.{after, before, following, from_first, up_to}
-use Rattle.uriparse_text.specs.Faults.{allows}
-use Rattle.uriparse_text.specs.Segment.{is_segment}
+use Rattle.uriparse_text.specs.Ambiguous.{are_dots, begins_with_dot, begins_with_end, has_ambiguous_escape, is_ambiguous_token, is_name_end}
+use Rattle.uriparse_text.specs.Bytes.{dot, percent}
+use Rattle.uriparse_text.specs.Cuts.{from_first, up_to}
 use Rattle.uriparse_text.specs.Tokens.{spell, tokens}
 use Rattle.uriparse_text.proofs.lemmas.canonical.RunLemmas.{no_escape}
-use Rattle.uriparse_text.proofs.lemmas.readings.CutLemmas.{before_after, cut-whole}
-use Rattle.uriparse_text.proofs.lemmas.tokens.TokenLemmas.{tokens-byte, tokens-mark, tokens-nil}
+use Rattle.uriparse_text.proofs.lemmas.readings.CutLemmas.{cut-whole}
+use Rattle.uriparse_text.proofs.lemmas.tokens.TokenLemmas.{tokens-byte, tokens-nil}
 
 -- bytes before the first `%` are no escapes
 pub ambiguous_after : (t : List ℕ) → has_ambiguous_escape (from_first (λ b. b == percent) t) ≡ has_ambiguous_escape t
@@ -26,16 +23,6 @@ ambiguous_after (b ∷ t) = by_sign (b == percent) refl (ambiguous_after t)
         → has_ambiguous_escape (cond v (b ∷ t) (from_first (λ b. b == percent) t)) ≡ has_ambiguous_escape (b ∷ t)
     by_sign true e h = refl
     by_sign false e h = h ∙ sym (ap (list_any is_ambiguous_token) (tokens-byte b t (no_escape b t e)))
-
--- what precedes a `;` in a segment is one
-pub segment_before : (s : List ℕ) → is_segment s ≡ true → is_segment (before semicolon s) ≡ true
-segment_before s h = by_after (after semicolon s) (before_after semicolon s)
-  where
-    by_after : (o : Option (List ℕ)) → before semicolon s ++ following semicolon o ≡ s → is_segment (before semicolon s) ≡ true
-    by_after None e = ap is_segment (sym (append-nil (before semicolon s)) ∙ e) ∙ h
-    by_after (Some u) e =
-        (and_parts _ _ (sym (list_all-append (allows Segment) (tokens (before semicolon s)) (Byte semicolon ∷ tokens u))
-        ∙ sym (ap (list_all (allows Segment)) (tokens-mark semicolon refl refl (before semicolon s) u)) ∙ ap is_segment e ∙ h)).0
 
 -- ---- the walk over escapes
 
@@ -66,3 +53,54 @@ ambiguous_token t after x v cut is = ap (list_any is_ambiguous_token) cut ∙ ap
 
 pub none_ambiguous : (t : List ℕ) → t ≡ [] → has_ambiguous_escape t ≡ false
 none_ambiguous t e = ap has_ambiguous_escape e ∙ ap (list_any is_ambiguous_token) tokens-nil
+
+-- ---- dots before an end, in the bytes that a segment stands for
+
+abbrev pub dots_of : List ℕ → Bool
+dots_of d = list_any is_name_end d && are_dots (up_to is_name_end d)
+
+-- bytes that begin otherwise than with a dot are no dots
+other_dots : (b : ℕ) (u : List ℕ) → (b == dot) ≡ false → are_dots (b ∷ u) ≡ false
+other_dots b u e = rw (e) refl
+
+-- what follows a dot isn't empty, and begins otherwise
+more_dots : (b : ℕ) (u : List ℕ) → (b == dot) ≡ false → are_dots (dot ∷ b ∷ u) ≡ false
+more_dots b u e = rw (e) refl
+
+pub no_dots : (d : List ℕ) → begins_with_dot d ≡ false → dots_of d ≡ false
+no_dots [] h = refl
+no_dots (b ∷ t) h = by_end (is_name_end b) refl
+  where
+    by_end : (v : Bool) → is_name_end b ≡ v → (list_any is_name_end (b ∷ t) && are_dots (cond v [] (b ∷ up_to is_name_end t))) ≡ false
+    by_end true e = and-false (list_any is_name_end (b ∷ t))
+    by_end false e = ap (λ w. list_any is_name_end (b ∷ t) && w) (other_dots b (up_to is_name_end t) h) ∙ and-false (list_any is_name_end (b ∷ t))
+
+pub one_dot : (d rest : List ℕ) → d ≡ dot ∷ rest → begins_with_end rest ≡ true → dots_of d ≡ true
+one_dot d [] e h = absurd (false≢true h)
+one_dot d (b ∷ t) e h = ap dots_of e ∙ ap (λ v. (v || list_any is_name_end t) && are_dots (dot ∷ cond v [] (b ∷ up_to is_name_end t))) h
+
+pub one_dot_alone : (d rest : List ℕ) → d ≡ dot ∷ rest → begins_with_end rest ≡ false → begins_with_dot rest ≡ false → dots_of d ≡ false
+one_dot_alone d [] e h k = ap dots_of e
+one_dot_alone d (b ∷ t) e h k =
+    ap dots_of e
+    ∙ ap (λ v. (v || list_any is_name_end t) && are_dots (dot ∷ cond v [] (b ∷ up_to is_name_end t))) h
+    ∙ ap (λ w. list_any is_name_end t && w) (more_dots b (up_to is_name_end t) k)
+    ∙ and-false (list_any is_name_end t)
+
+pub two_dots : (d more rest : List ℕ) → d ≡ dot ∷ more → more ≡ dot ∷ rest → dots_of d ≡ begins_with_end rest
+two_dots d more [] e f = ap dots_of (e ∙ ap (λ u. dot ∷ u) f)
+two_dots d more (b ∷ t) e f = ap dots_of (e ∙ ap (λ u. dot ∷ u) f) ∙ by_end (is_name_end b)
+  where
+    by_end : (v : Bool) → ((v || list_any is_name_end t) && are_dots (dot ∷ dot ∷ cond v [] (b ∷ up_to is_name_end t))) ≡ v
+    by_end true = refl
+    by_end false = and-false (list_any is_name_end t)
+
+pub no_name : (d : List ℕ) → d ≡ [] → bytes_eq (up_to is_name_end d) [] ≡ true
+no_name d e = ap (λ u. bytes_eq (up_to is_name_end u) []) e
+
+pub first_of_name : (d rest : List ℕ) (b : ℕ) → d ≡ b ∷ rest → bytes_eq (up_to is_name_end d) [] ≡ is_name_end b
+first_of_name d rest b e = ap (λ u. bytes_eq (up_to is_name_end u) []) e ∙ by_end (is_name_end b)
+  where
+    by_end : (v : Bool) → bytes_eq (cond v [] (b ∷ up_to is_name_end rest)) [] ≡ v
+    by_end true = refl
+    by_end false = refl

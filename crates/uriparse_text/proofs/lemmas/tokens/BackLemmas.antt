@@ -66,21 +66,21 @@ are_bytes-form_decoded class text h = each_value class form_value_of (form_value
 
 -- ---- the bytes of a name or a value, in a form
 
-no_plus : (b : ℕ) → (is_plain Query b && not (is_among (codes "&=+") b)) ≡ true → form_value_of (Byte b) ≡ b
-no_plus b h = cond-false (b == plus_sign) _ _ (not-true (b == plus_sign) (kept_lacks Query (codes "&=+") plus_sign refl refl refl b h))
+no_plus : (b : ℕ) → (is_plain Query b && not (is_among (codes "&=+*") b)) ≡ true → form_value_of (Byte b) ≡ b
+no_plus b h = cond-false (b == plus_sign) _ _ (not-true (b == plus_sign) (kept_lacks Query (codes "&=+*") plus_sign refl refl refl b h))
 
-form_value : (b : ℕ) → b < 256 → form_value_of (token_without Query (codes "&=+") b) ≡ value_of (token_without Query (codes "&=+") b)
-form_value b small = by_kept Query (codes "&=+") b (λ t. form_value_of t ≡ value_of t) (no_plus b) refl
+form_value : (b : ℕ) → b < 256 → form_value_of (token_without Query (codes "&=+*") b) ≡ value_of (token_without Query (codes "&=+*") b)
+form_value b small = by_kept Query (codes "&=+*") b (λ t. form_value_of t ≡ value_of t) (no_plus b) refl
 
-form_values : (bytes : List ℕ) → are_bytes bytes ≡ true → map form_value_of (map (token_without Query (codes "&=+")) bytes) ≡ bytes
+form_values : (bytes : List ℕ) → are_bytes bytes ≡ true → map form_value_of (map (token_without Query (codes "&=+*")) bytes) ≡ bytes
 form_values [] h = refl
 form_values (b ∷ bytes) h =
     let both = and_parts (is_in_range 0 255 b) (are_bytes bytes) h in
     let small = small_byte b both.0 in
-    rw (form_value b small, value_without Query (codes "&=+") b small, form_values bytes both.1) refl
+    rw (form_value b small, value_without Query (codes "&=+*") b small, form_values bytes both.1) refl
 
 pub form_decoded-encoded : (bytes : List ℕ) → are_bytes bytes ≡ true → form_decoded (encoded_in_pair bytes) ≡ bytes
-form_decoded-encoded bytes h = ap (map form_value_of) (tokens-encoded_without Query (codes "&=+") bytes) ∙ form_values bytes h
+form_decoded-encoded bytes h = ap (map form_value_of) (tokens-encoded_without Query (codes "&=+*") bytes) ∙ form_values bytes h
 
 form_decoded_value : (o : Option (List ℕ)) → are_bytes (unwrap_or o []) ≡ true → option_map form_decoded (option_map encoded_in_pair o) ≡ o
 form_decoded_value None h = refl

@@ -149,7 +149,7 @@ same_values (t ∷ ts) h =
     let both = and_parts (has_digits t) (list_all has_digits ts) h in
     rw (value-canonical_token t both.0, same_values ts both.1) refl
 
-decoded-canonical : (text : List ℕ) → is_well_formed text ≡ true → decoded (canonical_in Kept text) ≡ decoded text
+pub decoded-canonical : (text : List ℕ) → is_well_formed text ≡ true → decoded (canonical_in Kept text) ≡ decoded text
 unfolding decoded
 decoded-canonical text h = ap (map value_of) (tokens-canonical_in Kept text h) ∙ same_values (tokens text) (digits-tokens text)
 

@@ -1,4 +1,4 @@
-use Rattle.std.proofs.Common.{◌≡◌, ◌+◌, ◌≤◌, ℕ, List, [], ◌∷◌, length, inl, sym, subst, ap, ◌∙◌, arith, IfErr, Err, IsOk, refl}
+use Rattle.std.proofs.Common.{◌≡◌, ◌+◌, ◌≤◌, ℕ, List, [], ◌∷◌, length, inl, sym, subst, ap, ◌∙◌, arith, IfErr, Err, refl}
 use Rattle.std.proofs.lemmas.Bool.{false≢true}
 use Rattle.uriparse_path.specs.Dots.{all_but_last}
 use Rattle.uriparse_path.proofs.lemmas.reading.ReadingLemmas.{limit_is}

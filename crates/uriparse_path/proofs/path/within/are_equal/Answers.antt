@@ -1,4 +1,3 @@
-use Rattle.std.proofs.Common.{sym, ◌∙◌}
 use Rattle.std.proofs.lemmas.Bool.{false≢true}
 use Rattle.uriparse_path.proofs.lemmas.left.PathWithinLemmas.{differ, equal_pushed, last_pushed, same_text}
 use Rattle.uriparse_path.proofs.path.within.are_equal.Goals as goal

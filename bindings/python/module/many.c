@@ -1,0 +1,279 @@
+/* The calls of many texts. Some hundred are taken from an iterable and kept; their bytes are read without the interpreter's lock; then
+ * objects are made of what was found. */
+#include "module.h"
+
+#include <string.h>
+
+/* A batch has at most so many texts, and takes no other once it has so many bytes. */
+enum { TEXTS = 1024 };
+#define BYTES ((size_t)1 << 20)
+
+struct batch {
+  const struct state *state;
+  PyObject *iterator;
+  PyObject *found; /* the list of answers */
+  const char *argument;
+  bool is_raising;
+  bool has_kind; /* whether it is known if the texts are str */
+  bool is_str;
+  size_t count;
+  size_t len;
+  struct text texts[TEXTS];
+  uint32_t codes[TEXTS];
+};
+
+static void batch_clear(struct batch *batch) {
+  for (size_t i = 0; i < batch->count; i++) {
+    Py_DECREF(batch->texts[i].source);
+    text_release(&batch->texts[i]);
+  }
+  batch->count = batch->len = 0;
+}
+
+static void batch_free(struct batch *batch) {
+  batch_clear(batch);
+  Py_XDECREF(batch->iterator);
+  Py_XDECREF(batch->found);
+  PyMem_Free(batch);
+}
+
+/* Whether it is one text; an iterable of texts may have a buffer, too, as an array of objects. */
+static bool is_text(PyObject *texts) {
+  return PyUnicode_Check(texts) || PyBytes_Check(texts) || PyByteArray_Check(texts) || PyMemoryView_Check(texts);
+}
+
+/* Of any iterable but a text. */
+static struct batch *batch_of(const struct state *state, PyObject *texts, PyObject *raising, const char *argument) {
+  if (is_text(texts)) {
+    PyErr_SetString(PyExc_TypeError, "an iterable of texts expected, not one text");
+    return NULL;
+  }
+  int is_raising = PyObject_IsTrue(raising);
+  struct batch *batch = is_raising < 0 ? NULL : (struct batch *)PyMem_Malloc(sizeof *batch);
+  if (!batch) return is_raising < 0 ? NULL : (struct batch *)PyErr_NoMemory();
+  batch->state = state;
+  batch->argument = argument;
+  batch->is_raising = is_raising;
+  batch->has_kind = batch->is_str = false;
+  batch->count = batch->len = 0;
+  batch->found = PyList_New(0);
+  batch->iterator = PyObject_GetIter(texts);
+  if (batch->iterator && batch->found) return batch;
+  batch_free(batch);
+  return NULL;
+}
+
+/* Has the text be one that nothing can change: of a buffer that isn't a bytes object, a copy. */
+static bool hold_still(struct text *text) {
+  if (!text->view.obj) return true;
+  text->held = text_copy(text);
+  PyBuffer_Release(&text->view);
+  if (text->held) text->bytes = (const uint8_t *)PyBytes_AsString(text->held);
+  return text->held != NULL;
+}
+
+/* Takes a text, which the batch owns from now on, also if this fails. */
+static bool batch_add(struct batch *batch, PyObject *source) {
+  struct text *text = &batch->texts[batch->count];
+  if (!text_take(batch->state, text, source, OR_URI)) {
+    Py_DECREF(source);
+    return false;
+  }
+  if (text->source != source) {
+    Py_INCREF(text->source);
+    Py_DECREF(source);
+  }
+  batch->count++;
+  if (!hold_still(text)) return false;
+  batch->len += text->len;
+  if (batch->has_kind && batch->is_str != text->is_str) return text_mixed();
+  batch->has_kind = true;
+  batch->is_str = text->is_str;
+  return true;
+}
+
+/* Takes the next texts. Returns whether that is done; there may be none. */
+static bool batch_fill(struct batch *batch) {
+  batch_clear(batch);
+  while (batch->count < TEXTS && batch->len < BYTES) {
+    PyObject *source = PyIter_Next(batch->iterator);
+    if (!source) break;
+    if (!batch_add(batch, source)) return false;
+  }
+  return !PyErr_Occurred() && !PyErr_CheckSignals();
+}
+
+/* Adds an answer to the list: the object, or None for a rejected text, whose error may be raised. */
+static bool batch_answer(struct batch *batch, size_t at, PyObject *answer) {
+  if (batch->codes[at] && batch->is_raising) {
+    reject_fault(batch->state, batch->codes[at], &batch->texts[at], batch->argument);
+    return false;
+  }
+  if (batch->codes[at]) answer = Py_NewRef(Py_None);
+  bool done = answer && !PyList_Append(batch->found, answer);
+  Py_XDECREF(answer);
+  return done;
+}
+
+/* The list, if all went well. */
+static PyObject *batch_end(struct batch *batch, bool done) {
+  PyObject *found = done ? Py_NewRef(batch->found) : NULL;
+  batch_free(batch);
+  return found;
+}
+
+/* What a call writes for each text of a batch, one after another. */
+struct written {
+  write_call *call;         /* of a text alone, or NULL */
+  write_two_call *two_call; /* of a base and a text */
+  const struct text *base;  /* NULL for a call that takes none */
+  uint8_t *out;
+  size_t room;
+  size_t ends[TEXTS];
+};
+
+/* Writes for the texts from `first` on until one has no room, whose need is then `*needed`. Returns how many are done. */
+static size_t write_some(struct batch *batch, struct written *written, size_t first, size_t *needed) {
+  size_t end = 0, at = first;
+  for (; at < batch->count; at++) {
+    const struct text *text = &batch->texts[at];
+    uint8_t *out = written->out + end;
+    size_t room = written->room - end;
+    batch->codes[at] = written->call ? written->call(text->bytes, text->len, out, room, needed)
+                                     : written->two_call(written->base->bytes, written->base->len, text->bytes, text->len, out, room, needed);
+    if (batch->codes[at] == URIPARSE_NO_ROOM) break;
+    written->ends[at] = end += *needed;
+  }
+  return at;
+}
+
+/* Makes the room at least so large. What is in it is lost. */
+static bool make_room(struct written *written, size_t wanted) {
+  if (wanted <= written->room) return true;
+  PyMem_Free(written->out);
+  written->out = (uint8_t *)PyMem_Malloc(wanted);
+  written->room = written->out ? wanted : 0;
+  if (!written->out) PyErr_NoMemory();
+  return written->out != NULL;
+}
+
+static bool write_batch(struct batch *batch, struct written *written) {
+  size_t done = 0, needed = 0, base_len = written->base ? written->base->len : 0;
+  size_t more = (base_len + 16) * batch->count;
+  if (!make_room(written, batch->len + (more < BYTES ? more : BYTES))) return false;
+  while (done < batch->count) {
+    size_t first = done;
+    Py_BEGIN_ALLOW_THREADS
+    done = write_some(batch, written, first, &needed);
+    Py_END_ALLOW_THREADS
+    for (size_t at = first, begin = 0; at < done; begin = written->ends[at++]) {
+      PyObject *one = batch->codes[at] ? NULL : object_of(written->out + begin, written->ends[at] - begin, batch->is_str);
+      if (!batch_answer(batch, at, one)) return false;
+    }
+    if (done < batch->count && !make_room(written, needed)) return false;
+  }
+  return true;
+}
+
+static PyObject *write_all(struct batch *batch, write_call *call, write_two_call *two_call, const struct text *base) {
+  struct written *written = (struct written *)PyMem_Malloc(sizeof *written);
+  bool done = written != NULL;
+  if (written) {
+    written->call = call;
+    written->two_call = two_call;
+    written->base = base;
+    written->out = NULL;
+    written->room = 0;
+  } else {
+    PyErr_NoMemory();
+  }
+  while (done && (done = batch_fill(batch)) && batch->count) done = write_batch(batch, written);
+  if (written) PyMem_Free(written->out);
+  PyMem_Free(written);
+  return batch_end(batch, done);
+}
+
+static PyObject *normalize_many(PyObject *module, PyObject *const *args, Py_ssize_t count, PyObject *kwnames) {
+  static const char *const names[] = {"texts", "is_raising"};
+  PyObject *sources[2];
+  if (!take_arguments("normalize_many", names, 2, args, count, kwnames, sources)) return NULL;
+  struct batch *batch = batch_of(state_of(module), sources[0], sources[1], "text");
+  return batch ? write_all(batch, uriparse_normalize, NULL, NULL) : NULL;
+}
+
+/* The base was accepted by `resolve`. */
+static PyObject *resolve_many(PyObject *module, PyObject *const *args, Py_ssize_t count, PyObject *kwnames) {
+  static const char *const names[] = {"base", "references", "is_raising"};
+  const struct state *state = state_of(module);
+  PyObject *sources[3];
+  PyObject *found = NULL;
+  struct text base;
+  if (!take_arguments("resolve_many", names, 3, args, count, kwnames, sources) || !text_take(state, &base, sources[0], OR_URI)) return NULL;
+  struct batch *batch = hold_still(&base) ? batch_of(state, sources[1], sources[2], "reference") : NULL;
+  if (batch) {
+    batch->has_kind = true;
+    batch->is_str = base.is_str;
+    found = write_all(batch, NULL, uriparse_resolve, &base);
+  }
+  text_release(&base);
+  return found;
+}
+
+/* The object that is made of a text and its components. */
+typedef PyObject *maker(const struct batch *batch, const struct text *text, const struct uriparse_parts *parts, size_t which);
+
+static PyObject *parse_all(struct batch *batch, maker *make, size_t which) {
+  struct uriparse_parts *parts = (struct uriparse_parts *)PyMem_Malloc(TEXTS * sizeof *parts);
+  bool done = parts != NULL;
+  if (!parts) PyErr_NoMemory();
+  while (done && (done = batch_fill(batch)) && batch->count) {
+    Py_BEGIN_ALLOW_THREADS
+    for (size_t at = 0; at < batch->count; at++) {
+      batch->codes[at] = (uriparse_parse)(batch->texts[at].bytes, batch->texts[at].len, &parts[at]);
+    }
+    Py_END_ALLOW_THREADS
+    for (size_t at = 0; done && at < batch->count; at++) {
+      done = batch_answer(batch, at, batch->codes[at] ? NULL : make(batch, &batch->texts[at], &parts[at], which));
+    }
+  }
+  PyMem_Free(parts);
+  return batch_end(batch, done);
+}
+
+static PyObject *make_components(const struct batch *batch, const struct text *text, const struct uriparse_parts *parts, size_t which) {
+  (void)which;
+  return reference_new(batch->state, (PyTypeObject *)batch->state->components, text, parts);
+}
+
+static PyObject *make_component(const struct batch *batch, const struct text *text, const struct uriparse_parts *parts, size_t which) {
+  const struct uriparse_span *spans[9] = {&parts->scheme, &parts->authority, &parts->username, &parts->password, &parts->host,
+                                          &parts->port,   &parts->path,      &parts->query,    &parts->fragment};
+  (void)batch;
+  return reference_cut(text->source, text->bytes, spans[which]);
+}
+
+static PyObject *parse_many(PyObject *module, PyObject *const *args, Py_ssize_t count, PyObject *kwnames) {
+  static const char *const names[] = {"texts", "is_raising"};
+  PyObject *sources[2];
+  if (!take_arguments("parse_many", names, 2, args, count, kwnames, sources)) return NULL;
+  struct batch *batch = batch_of(state_of(module), sources[0], sources[1], "text");
+  return batch ? parse_all(batch, make_components, 0) : NULL;
+}
+
+/* The component is one of nine, by its number. */
+static PyObject *get_many(PyObject *module, PyObject *const *args, Py_ssize_t count, PyObject *kwnames) {
+  static const char *const names[] = {"component", "texts", "is_raising"};
+  PyObject *sources[3];
+  if (!take_arguments("get_many", names, 3, args, count, kwnames, sources)) return NULL;
+  size_t which = PyLong_AsSize_t(sources[0]);
+  if (PyErr_Occurred()) return NULL;
+  if (which > 8) {
+    PyErr_SetString(PyExc_ValueError, "no component has this number");
+    return NULL;
+  }
+  struct batch *batch = batch_of(state_of(module), sources[1], sources[2], "text");
+  return batch ? parse_all(batch, make_component, which) : NULL;
+}
+
+PyMethodDef many_methods[] = {METHOD("normalize_many", normalize_many, NULL), METHOD("resolve_many", resolve_many, NULL),
+                              METHOD("parse_many", parse_many, NULL), METHOD("get_many", get_many, NULL), {NULL, NULL, 0, NULL}};
