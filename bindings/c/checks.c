@@ -1,5 +1,5 @@
-/* Rows with what is expected: the order of references, URIs and hosts within others, what hosts may be taken for, default ports, and pairs
- * that are found, set, appended and dropped. Prints as test.c does. */
+/* Rows with what is expected: the order of references and their origins, URIs and hosts within others, what hosts and segments may be taken
+ * for, addresses and ports, pairs that are found, set, appended and dropped, forms and links. Prints as test.c does. */
 #include "hostile.h"
 #include "rows.h"
 
@@ -29,6 +29,47 @@ static void host_flags(const char *text, uint32_t expected, uint32_t flags) {
   check(uriparse_host_flags(text, strlen(text), &found) == expected && found == (expected == URIPARSE_OK ? flags : 99), "host_flags", text);
 }
 
+static void same_origin(const char *left, const char *right, uint32_t expected, bool answer) {
+  bool same = !answer;
+  uint32_t code = uriparse_same_origin(left, strlen(left), right, strlen(right), &same);
+  check(code == expected && same == (expected == URIPARSE_OK ? answer : !answer), "same_origin", right);
+}
+
+static void is_normalized(const char *text, uint32_t expected, bool answer) {
+  bool normalized = !answer;
+  uint32_t code = uriparse_is_normalized(text, strlen(text), &normalized);
+  check(code == expected && normalized == (expected == URIPARSE_OK ? answer : !answer), "is_normalized", text);
+}
+
+static void is_ambiguous(const char *segment, uint32_t expected, bool answer) {
+  bool ambiguous = !answer;
+  uint32_t code = uriparse_is_ambiguous(segment, strlen(segment), &ambiguous);
+  check(code == expected && ambiguous == (expected == URIPARSE_OK ? answer : !answer), "is_ambiguous", segment);
+}
+
+static void port_or_default(const char *text, uint32_t expected, int32_t port) {
+  int32_t found = 99;
+  check(uriparse_port_or_default(text, strlen(text), &found) == expected && found == (expected == URIPARSE_OK ? port : 99), "port_or_default", text);
+}
+
+static uint32_t host_address(const char *text, size_t len, uint8_t *out, size_t room, size_t *needed) {
+  return uriparse_host_address(text, len, out, room, needed);
+}
+
+static void has_no_address(const char *text, uint32_t expected) {
+  uint8_t out[16] = {1};
+  size_t needed = 7;
+  check(host_address(text, strlen(text), out, sizeof out, &needed) == expected && needed == 0 && out[0] == 1, "no address", text);
+}
+
+static uint32_t form_decode(const char *text, size_t len, uint8_t *out, size_t room, size_t *needed) {
+  return uriparse_form_decode(text, len, out, room, needed);
+}
+
+static uint32_t trim_link(const char *text, size_t len, uint8_t *out, size_t room, size_t *needed) {
+  return uriparse_trim_link(text, len, out, room, needed);
+}
+
 static void default_port(const char *scheme, uint32_t expected) {
   check(uriparse_default_port(scheme, strlen(scheme)) == expected, "default_port", scheme);
 }
@@ -47,6 +88,24 @@ static void finds(const char *query, const char *name, long expected, const char
     check(value == NULL || (pair.value.end - pair.value.begin == strlen(value) && memcmp(query + pair.value.begin, value, strlen(value)) == 0),
           "found value", query);
   }
+}
+
+/* The places of the values of all pairs of a name, one after another. */
+static void finds_all(const char *query, const char *name, const char *expected) {
+  size_t len = strlen(query), at = 0;
+  char found[100] = "";
+  struct uriparse_pair pair, before;
+  while (uriparse_find_next_pair(query, len, at, name, strlen(name), &pair)) {
+    check(pair.name.present && pair.name.begin >= at && pair.next > pair.name.end, "place of a name", query);
+    sprintf(found + strlen(found), "[%zu:%.*s]", pair.name.begin, (int)(pair.value.end - pair.value.begin), query + pair.value.begin);
+    at = pair.next;
+  }
+  check(strcmp(found, expected) == 0, "find_next_pair", query);
+  memset(&before, 0x5a, sizeof before);
+  memcpy(&pair, &before, sizeof pair);
+  check(!uriparse_find_next_pair(query, len, len + 1, name, strlen(name), &pair)
+            && !uriparse_find_next_pair(query, len, (size_t)-1, name, strlen(name), &pair) && memcmp(&pair, &before, sizeof pair) == 0,
+        "no next pair", query);
 }
 
 static const char *name_of, *value_of;
@@ -201,6 +260,40 @@ int main(void) {
   hostile_rows("../../tests/hostile.tsv");
   host_flags("a b", URIPARSE_PATH_BYTE, 0);
 
+  same_origin("HTTPS://u@H:443/a", "https://h/b", URIPARSE_OK, true);
+  same_origin("http://h", "http://h:8080", URIPARSE_OK, false);
+  same_origin("file:///a", "file:///a", URIPARSE_OK, false);
+  same_origin("//h:80", "//h:80", URIPARSE_OK, false);
+  same_origin("//h:x", "%", URIPARSE_PORT_BYTE, false);
+  same_origin("a", "%", URIPARSE_PATH_ESCAPE, false);
+
+  is_normalized("http://h/~", URIPARSE_OK, true);
+  is_normalized("http://h", URIPARSE_OK, false);
+  is_normalized("http://h/%7e", URIPARSE_OK, false);
+  is_normalized("//h[", URIPARSE_HOST_BYTE, false);
+
+  is_ambiguous("..;a", URIPARSE_OK, true);
+  is_ambiguous("a%2fb", URIPARSE_OK, true);
+  is_ambiguous("%2e%2e", URIPARSE_OK, false);
+  is_ambiguous("a/b", URIPARSE_PATH_BYTE, false);
+  is_ambiguous("a%2", URIPARSE_PATH_ESCAPE, false);
+
+  port_or_default("https://h", URIPARSE_OK, 443);
+  port_or_default("https://h:", URIPARSE_OK, 443);
+  port_or_default("https://h:65535", URIPARSE_OK, 65535);
+  port_or_default("https://h:0", URIPARSE_OK, 0);
+  port_or_default("https:h", URIPARSE_OK, -1);
+  port_or_default("//h", URIPARSE_OK, -1);
+  port_or_default("//h:65536", URIPARSE_PORT_RANGE, 0);
+
+  writes(host_address, "host_address", "//1.2.3.4:80", 12, "\1\2\3\4", 4);
+  writes(host_address, "host_address", "//[1::255.0.0.2]", 16, "\0\1\0\0\0\0\0\0\0\0\0\0\377\0\0\2", 16);
+  has_no_address("//h", URIPARSE_NO_ADDRESS);
+  has_no_address("//[v1.a]", URIPARSE_NO_ADDRESS);
+  has_no_address("//%31.2.3.4", URIPARSE_NO_ADDRESS);
+  has_no_address("/1.2.3.4", URIPARSE_NO_ADDRESS);
+  has_no_address("//[::g]", URIPARSE_HOST_IPV6_BYTE);
+
   default_port("https", 443);
   default_port("HTTP", 80);
   default_port("mailto", 0);
@@ -217,6 +310,17 @@ int main(void) {
   finds("", "", 0, NULL);
   finds("a&=x", "", 2, "x");
   finds("ab=1", "a", -1, NULL);
+
+  finds_all("a=1&b&%61=2&a&ab=3", "a", "[0:1][6:2][12:]");
+  finds_all("a=1&b", "c", "");
+  finds_all("&=x&", "", "[0:][1:x][4:]");
+  finds_all("", "a", "");
+  {
+    struct uriparse_pair pair;
+    check(uriparse_find_next_pair("a=1&a=2", 7, 2, "a", 1, &pair) && pair.name.begin == 4 && pair.next == 8, "from within a pair", "a=1&a=2");
+    check(uriparse_find_next_pair("a=1&a=2", 7, 7, "", 0, &pair) && pair.name.begin == 7, "from the end", "a=1&a=2");
+    check(uriparse_find_next_pair(NULL, 0, 0, NULL, 0, &pair) && pair.name.begin == 0 && pair.next == 1, "find_next_pair", "NULL");
+  }
 
   sets_pair("p=1&lang=de&%70=2", "p", "a&b", "p=a%26b&lang=de");
   sets_pair("", "a", "1", "a=1");
@@ -239,6 +343,20 @@ int main(void) {
   pair_rejects(uriparse_drop_pairs("a", 1, "b#", 2, out, sizeof out, &needed), &needed, URIPARSE_BAD_NAMES, "b#");
   check(uriparse_encode(URIPARSE_PAIR, "a&b=c d+", 8, NULL, 0, &needed) == URIPARSE_NO_ROOM && needed == 16, "encode", "pair");
 
+  writes(form_decode, "form_decode", "a+%2B%00", 8, "a +", 4);
+  check(form_decode("a+%4", 4, out, sizeof out, &needed) == URIPARSE_QUERY_ESCAPE && needed == 0, "form_decode rejects", "a+%4");
+  writes(trim_link, "trim_link", " <URL: http://h/\t>\n", 19, "http://h/", 9);
+  writes(trim_link, "trim_link", "\377[ ", 3, "\377[", 2);
+  writes(trim_link, "trim_link", "\0 ", 2, "", 1);
+
+  check(uriparse_same_origin(NULL, 0, NULL, 0, &within) == URIPARSE_OK && !within, "same_origin", "NULL");
+  check(uriparse_is_normalized(NULL, 0, &within) == URIPARSE_OK && within, "is_normalized", "NULL");
+  check(uriparse_is_ambiguous(NULL, 0, &within) == URIPARSE_OK && !within, "is_ambiguous", "NULL");
+  check(uriparse_port_or_default(NULL, 0, &order) == URIPARSE_OK && order == -1, "port_or_default", "NULL");
+  check(uriparse_host_address(NULL, 0, NULL, 0, &needed) == URIPARSE_NO_ADDRESS && needed == 0, "host_address", "NULL");
+  check(uriparse_form_decode(NULL, 0, NULL, 0, &needed) == URIPARSE_OK && needed == 0, "form_decode", "NULL");
+  check(uriparse_trim_link(NULL, 0, NULL, 0, &needed) == URIPARSE_OK && needed == 0, "trim_link", "NULL");
+  within = true;
   check(uriparse_compare(NULL, 0, NULL, 0, &order) == URIPARSE_OK && order == 0, "compare", "NULL");
   check(uriparse_is_within("s:", 2, NULL, 0, &within) == (URIPARSE_IN_BASE | URIPARSE_NO_SCHEME) && within, "is_within", "NULL");
   check(uriparse_host_is_within(NULL, 0, NULL, 0, &within) == URIPARSE_OK && !within, "host_is_within", "NULL");

@@ -22,6 +22,11 @@ static uint64_t digest(int which, const char *base, size_t base_len, const char 
   mix(&sum, &to.place, sizeof to.place);
   mix(&sum, &to.hash, sizeof to.hash);
   mix(&sum, &to.equal, sizeof to.equal);
+  mix(&sum, &to.order, sizeof to.order);
+  mix(&sum, &to.flags, sizeof to.flags);
+  mix(&sum, &to.pair.next, sizeof to.pair.next);
+  mix_span(&sum, to.pair.name);
+  mix_span(&sum, to.pair.value);
   struct uriparse_parts *parts = &to.parts;
   struct uriparse_span spans[] = {parts->scheme, parts->authority, parts->username, parts->password, parts->host,
                                   parts->port,   parts->path,      parts->query,    parts->fragment};

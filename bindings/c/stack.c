@@ -83,14 +83,8 @@ int main(void) {
   }
   size_t most = 0;
   for (which = 0; which < CALLS; which++) {
-    static const char *const of_two[] = {"equal", "resolve", "relativize", "compare", "is_within", "host_is_within", "find_pair",
-                                         "set_pair", "append_pair", "drop_pairs", "change"};
-    bool has_base = false;
-    for (size_t i = 0; i < sizeof of_two / sizeof of_two[0]; i++) {
-      has_base = has_base || strcmp(names[which], of_two[i]) == 0;
-    }
     size_t largest = 0;
-    for (size_t i = 0; i < (has_base ? TEXTS : 1); i++) {
+    for (size_t i = 0; i < (reads_base[which] ? TEXTS : 1); i++) {
       for (size_t j = 0; j < TEXTS; j++) {
         base = texts[i];
         text = texts[j];

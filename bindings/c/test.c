@@ -246,8 +246,8 @@ static void texts(void) {
   for (uint32_t code = 0; code < 0x100; code++) {
     named += strcmp(uriparse_error_text(code), "unknown code") != 0;
   }
-  check(named == 34, "texts", "codes");
-  check(strcmp(uriparse_error_text(URIPARSE_IN_BASE | URIPARSE_PORT_RANGE), "the port is above 65535") == 0, "text", "0x142");
+  check(named == 35, "texts", "codes");
+  check(strcmp(uriparse_error_text(URIPARSE_IN_BASE | URIPARSE_PORT_RANGE), "port overflow") == 0, "text", "0x142");
   check((URIPARSE_USERNAME_BYTE & URIPARSE_COMPONENT_MASK) == URIPARSE_USERNAME
             && (URIPARSE_PASSWORD_ESCAPE & URIPARSE_COMPONENT_MASK) == URIPARSE_PASSWORD
             && ((URIPARSE_IN_BASE | URIPARSE_HOST_FUTURE_FORM) & URIPARSE_COMPONENT_MASK) == URIPARSE_HOST
@@ -258,7 +258,7 @@ static void texts(void) {
             && (URIPARSE_USERNAME_COLON & URIPARSE_COMPONENT_MASK) == URIPARSE_USERNAME
             && (URIPARSE_SCHEME_EMPTY & URIPARSE_COMPONENT_MASK) == URIPARSE_SCHEME
             && (URIPARSE_NO_ORIGIN & URIPARSE_COMPONENT_MASK) == 0, "component", "codes");
-  check(strcmp(uriparse_version(), URIPARSE_VERSION) == 0, "version", URIPARSE_VERSION);
+  check(strcmp(uriparse_version(), URIPARSE_VERSION) == 0, "the library is that of the header", URIPARSE_VERSION);
 }
 
 /* A NULL that is said to have bytes ends the program, and nothing is read or written: each is called in a child. */
@@ -272,6 +272,14 @@ static void call_with_null(int which) {
   case 2: uriparse_escape("a", 1, NULL, (size_t)1 << 40, &needed); break;
   default: uriparse_equal("a", 1, NULL, 1, &equal); break;
   }
+}
+
+/* A call is a function: its address accepts NULL too, and its arguments may have commas. */
+static void calls_as_functions(void) {
+  uint32_t (*hash)(const void *, size_t, uint64_t *) = uriparse_hash;
+  uint64_t one = 1, other = 2;
+  check(hash(NULL, 0, &one) == URIPARSE_OK && uriparse_hash("", 0, &other) == URIPARSE_OK && one == other, "address", "hash");
+  check(uriparse_is_uri((const uint8_t[]){'a', ':'}, 2) && !uriparse_is_uri((const char[]){'a', 'b'}, 2), "compound literals", "is_uri");
 }
 
 static void ends_by_null(void) {
@@ -291,8 +299,8 @@ static void components(void) {
   static const uint32_t rows[][2] = {
       {URIPARSE_NO_SCHEME, URIPARSE_SCHEME}, {URIPARSE_NO_SCHEME | URIPARSE_IN_BASE, URIPARSE_SCHEME}, {URIPARSE_COLON_IN_SEGMENT, URIPARSE_SEGMENT},
       {URIPARSE_TOO_MANY_SEGMENTS, URIPARSE_SEGMENT}, {URIPARSE_TWO_SLASHES, URIPARSE_SEGMENT}, {URIPARSE_MISSING_HOST, URIPARSE_HOST},
-      {URIPARSE_BAD_NAMES, URIPARSE_QUERY}, {URIPARSE_NO_PAIRS, URIPARSE_QUERY}, {URIPARSE_NO_ORIGIN, 0}, {URIPARSE_BAD_CHANGE, 0},
-      {URIPARSE_NO_COMPONENT, 0}, {URIPARSE_OK, 0}, {URIPARSE_HOST_IPV6_FORM | URIPARSE_IN_BASE, URIPARSE_HOST}, {URIPARSE_SCHEME_LETTER, URIPARSE_SCHEME}};
+      {URIPARSE_BAD_NAMES, URIPARSE_QUERY}, {URIPARSE_NO_PAIRS, URIPARSE_QUERY}, {URIPARSE_NO_ORIGIN, 0}, {URIPARSE_NO_ADDRESS, 0},
+      {URIPARSE_BAD_CHANGE, 0}, {URIPARSE_NO_COMPONENT, 0}, {URIPARSE_OK, 0}, {URIPARSE_HOST_IPV6_FORM | URIPARSE_IN_BASE, URIPARSE_HOST}, {URIPARSE_SCHEME_LETTER, URIPARSE_SCHEME}};
   for (size_t i = 0; i < sizeof rows / sizeof rows[0]; i++) {
     check(uriparse_error_component(rows[i][0]) == rows[i][1], "component", uriparse_error_text(rows[i][0]));
   }
@@ -586,6 +594,7 @@ int main(void) {
   check(uriparse_is_uri("a:", 2) && !uriparse_is_uri("a", 1) && !uriparse_is_uri("a:%", 3), "is_uri", "a:");
   texts();
   components();
+  calls_as_functions();
   ends_by_null();
 
   hashes("http://h/%7ea", "HTTP://H/~a", true);

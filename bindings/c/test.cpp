@@ -80,14 +80,15 @@ static void check_hostile() {
 
 static void check_names() {
   uint32_t (*hash)(uriparse_bytes, size_t, uint64_t *) = &uriparse_hash;
-  uint32_t (*of_c)(const uint8_t *, size_t, uint64_t *) = uriparse_c::uriparse_hash;
   const uint8_t byte = 'a';
   uint64_t one = 1, other = 2;
-  check(hash(&byte, 1, &one) == URIPARSE_OK && of_c(&byte, 1, &other) == URIPARSE_OK && one == other, "addresses");
+  check(hash(&byte, 1, &one) == URIPARSE_OK && uriparse_hash("a", 1, &other) == URIPARSE_OK && one == other, "addresses");
   check(::uriparse_is_uri("a:", 2) && reader().uriparse_is_uri("a:") && wrapped_is_uri("a:", 2), "qualified names");
 }
 
-// A text and a buffer are of bytes, or of `void`.
+// A text and a buffer are of bytes, or of `void`, and are passed as pointers.
+static_assert(std::is_trivially_copyable<uriparse_bytes>::value && sizeof(uriparse_bytes) == sizeof(void *), "a text as a pointer");
+static_assert(std::is_trivially_copyable<uriparse_buffer>::value && sizeof(uriparse_buffer) == sizeof(void *), "a buffer as a pointer");
 template <class Text> static constexpr bool is_text() { return std::is_convertible<Text, uriparse_bytes>::value; }
 template <class Out> static constexpr bool is_buffer() { return std::is_convertible<Out, uriparse_buffer>::value; }
 
@@ -152,7 +153,7 @@ int main() {
   }
   check(names == "a 1 b absent ", "pairs");
   check(uriparse_escape("a b%", 4, out, sizeof out, &needed) == URIPARSE_OK && std::string(out, needed) == "a%20b%25", "escape");
-  check(std::string(uriparse_error_text(URIPARSE_IN_BASE | URIPARSE_PORT_RANGE)) == "the port is above 65535", "text");
+  check(std::string(uriparse_error_text(URIPARSE_IN_BASE | URIPARSE_PORT_RANGE)) == "port overflow", "text");
   check_names();
   check_null();
   check_hostile();

@@ -9,10 +9,10 @@ import (
 	"unsafe"
 )
 
-// A text's pointer and length. The pointer of an empty text isn't null.
-func pointer(text string) (*C.uint8_t, C.size_t) {
+// A text's pointer and length.
+func pointer(text string) (C.uriparse_bytes, C.size_t) {
 	bytes := append([]byte(text), 0)
-	return (*C.uint8_t)(unsafe.Pointer(&bytes[0])), C.size_t(len(text))
+	return C.uriparse_bytes(unsafe.Pointer(&bytes[0])), C.size_t(len(text))
 }
 
 func piece(text string, span C.struct_uriparse_span) string {
@@ -26,7 +26,7 @@ func normalize(text string) string {
 	begin, length := pointer(text)
 	out := make([]byte, len(text)+16)
 	var needed C.size_t
-	room := (*C.uint8_t)(unsafe.Pointer(&out[0]))
+	room := C.uriparse_buffer(unsafe.Pointer(&out[0]))
 	if C.uriparse_normalize(begin, length, room, C.size_t(len(out)), &needed) != C.URIPARSE_OK {
 		return "rejected"
 	}
@@ -38,7 +38,7 @@ func resolve(base, text string) string {
 	begin, length := pointer(text)
 	out := make([]byte, len(base)+len(text)+16)
 	var needed C.size_t
-	room := (*C.uint8_t)(unsafe.Pointer(&out[0]))
+	room := C.uriparse_buffer(unsafe.Pointer(&out[0]))
 	if C.uriparse_resolve(baseBegin, baseLength, begin, length, room, C.size_t(len(out)), &needed) != C.URIPARSE_OK {
 		return "rejected"
 	}
@@ -49,10 +49,9 @@ func resolve(base, text string) string {
 func escape(text string) string {
 	begin, length := pointer(text)
 	var needed C.size_t
-	var none C.uint8_t
-	check(C.uriparse_escape(begin, length, &none, 0, &needed) == C.URIPARSE_NO_ROOM, "length of "+text)
+	check(C.uriparse_escape(begin, length, nil, 0, &needed) == C.URIPARSE_NO_ROOM, "length of "+text)
 	out := make([]byte, needed)
-	room := (*C.uint8_t)(unsafe.Pointer(&out[0]))
+	room := C.uriparse_buffer(unsafe.Pointer(&out[0]))
 	check(C.uriparse_escape(begin, length, room, needed, &needed) == C.URIPARSE_OK, "escape "+text)
 	return string(out)
 }
@@ -72,7 +71,7 @@ func decode(text string) string {
 	begin, length := pointer(text)
 	out := make([]byte, len(text)+1)
 	var needed C.size_t
-	room := (*C.uint8_t)(unsafe.Pointer(&out[0]))
+	room := C.uriparse_buffer(unsafe.Pointer(&out[0]))
 	if C.uriparse_decode(begin, length, room, C.size_t(len(out)), &needed) != C.URIPARSE_OK {
 		return "rejected"
 	}
@@ -83,7 +82,7 @@ func encode(component C.uint32_t, text string) string {
 	begin, length := pointer(text)
 	out := make([]byte, 3*len(text)+1)
 	var needed C.size_t
-	room := (*C.uint8_t)(unsafe.Pointer(&out[0]))
+	room := C.uriparse_buffer(unsafe.Pointer(&out[0]))
 	if C.uriparse_encode(component, begin, length, room, C.size_t(len(out)), &needed) != C.URIPARSE_OK {
 		return "rejected"
 	}

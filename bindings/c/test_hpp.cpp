@@ -208,7 +208,7 @@ static void check_errors() {
   try {
     uriparse::normalize("//h:x");
   } catch (const std::runtime_error &caught) {
-    check(std::string(caught.what()) == "invalid byte in the port", "as a runtime_error");
+    check(std::string(caught.what()) == "invalid port character", "as a runtime_error");
   }
   check(uriparse::error({URIPARSE_HOST_IPV6_FORM, 0}, 0).component() == URIPARSE_HOST, "component");
 }
@@ -229,6 +229,19 @@ static void check_checks() {
   check(throws([] { uriparse::host_is_within("//h", "a b"); }, URIPARSE_HOST_BYTE, 1, 1), "host_is_within rejects");
   check(uriparse::host_flags("//%31.2.3.4") == (URIPARSE_HIDES_ADDRESS | URIPARSE_MAY_BE_NUMERIC) && uriparse::host_flags("a") == 0, "host_flags");
   check(uriparse::default_port("HTTPS") == 443 && !uriparse::default_port("mailto"), "default_port");
+  check(uriparse::same_origin("HTTPS://u@H:443/a", "https://h/b") && !uriparse::same_origin("file:///a", "file:///a"), "same_origin");
+  check(throws([] { uriparse::same_origin("a", "a b"); }, URIPARSE_PATH_BYTE, 1, 1), "same_origin rejects");
+  check(uriparse::is_normalized("http://h/") && !uriparse::is_normalized("http://h"), "is_normalized");
+  check(uriparse::is_ambiguous("..;a") && !uriparse::is_ambiguous(".."), "is_ambiguous");
+  check(throws([] { uriparse::is_ambiguous("a/b"); }, URIPARSE_PATH_BYTE, 0, 1), "is_ambiguous rejects");
+  check(uriparse::port_or_default("https://h") == 443U && uriparse::port_or_default("//h:0") == 0U && !uriparse::port_or_default("https:a"), "port_or_default");
+  check(uriparse::host_address("//1.2.3.4") == "\1\2\3\4" && uriparse::host_address("//[::1]") == std::string(15, '\0') + "\1"
+            && !uriparse::host_address("//h"), "host_address");
+  check(throws([] { uriparse::host_address("//[1:2]"); }, URIPARSE_HOST_IPV6_FORM, 0, 2), "host_address rejects");
+  check(uriparse::form_decode("a+%2B") == "a +" && uriparse::trim_link(" <URL: http://h/>\n") == "http://h/", "form_decode and trim_link");
+  check(throws([] { uriparse::form_decode("+ "); }, URIPARSE_QUERY_BYTE, 0, 1), "form_decode rejects");
+  check(uriparse::pair_values("?a=1&b&%61=%26&a", "a") == std::vector<std::string>{"1", "&", ""} && uriparse::pair_values("a", "a").empty(), "pair_values");
+  check(throws([] { uriparse::pair_values("?a b", "a"); }, URIPARSE_QUERY_BYTE, 0, 2), "pair_values rejects");
   check(uriparse::pair("http://h/?q=R%26D&all", "q") == "R&D" && uriparse::pair("?all", "all") == "" && !uriparse::pair("?a", "b")
             && !uriparse::pair("a", "a"), "pair");
   check(uriparse::with_pair("http://h/?p=1&lang=de&%70=2#f", "p", "a&b") == "http://h/?p=a%26b&lang=de#f"
@@ -279,7 +292,7 @@ int main() {
   check_pairs();
   check_redirects();
   check(search_of("http://example.com/a/", "../find?x&q=R%26D#top") == "example.com: R&D", "search");
-  check(search_of("http://h", "?a=1") == "no search" && search_of("http://h", "a b") == "invalid byte in the path at byte 1", "no search");
+  check(search_of("http://h", "?a=1") == "no search" && search_of("http://h", "a b") == "invalid path character at byte 1", "no search");
   std::printf("%d passed, %d failed\n", passed, failed);
   return failed != 0;
 }

@@ -10,12 +10,12 @@
  * Texts are bytes with a length in bytes, and need no zero byte at their end. A zero byte in a text is rejected like
  * any other byte that no URI has. An empty text may be NULL with length 0: the calls below allow it, and `out` too may
  * be NULL if `room` is 0. NULL with a greater length ends the program. Each other pointer is valid and aligned for its
- * type, each text readable for its whole length, and `out` writable for `room` bytes. A length is at most PTRDIFF_MAX.
+ * type, each text readable for its whole length, `changes` initialized, and `out` writable for `room` bytes. A length is at
+ * most PTRDIFF_MAX.
  *
  * A text isn't written and isn't kept: after the call nothing points into it. Its bytes are initialized, and nothing
  * changes them during the call, be it another thread, a signal handler or another process that shares the memory: a
- * call reads a text more than once. What a call writes to (`out`, `needed`, `parts`, `place`, `equal`, `order`, `within`,
- * `flags`, `hash`, `pair`)
+ * call reads a text more than once. What a call writes to, `out` and the target of each pointer that isn't to const,
  * overlaps no other argument. It need not be initialized, and nothing else uses it during the call. On an error
  * nothing is written except `*needed`, which becomes 0, or with URIPARSE_NO_ROOM the length of the text, and `*place`.
  *
@@ -31,14 +31,13 @@
 #include <stdbool.h>
 #include <stddef.h>
 #include <stdint.h>
-#include <stdlib.h>
 #if defined(__cplusplus) && __cplusplus >= 201703L
 extern "C++" {
 #include <cstddef>
 }
 #endif
 
-#define URIPARSE_VERSION "0.3.0"
+#define URIPARSE_VERSION "0.4.0"
 
 /* What a call returns. The error of a text is its first one: of the authority (user name, password, host, port), then
  * of the path, the colon rule, the query, the fragment; and within each of these the leftmost one.
@@ -46,41 +45,43 @@ extern "C++" {
  * `code & URIPARSE_IN_BASE` is set if `uriparse_resolve`, `uriparse_relativize` or `uriparse_is_within` rejects the base, or
  * `uriparse_host_is_within` the domain. Later versions may add codes. */
 enum uriparse_code {
+  /* codes.tsv: codes */
   URIPARSE_OK = 0,
-  URIPARSE_OUT_OF_MEMORY = 1,     /* reserved: earlier versions allocated */
-  URIPARSE_NO_ROOM = 2,           /* `room` is too small: `*needed` bytes are enough */
-  URIPARSE_NO_SCHEME = 3,         /* of a base, and of the URI of `uriparse_relativize`: no scheme, and no error but code 4 */
-  URIPARSE_COLON_IN_SEGMENT = 4,  /* without a scheme, a colon precedes the path's first slash: "1:2" */
-  URIPARSE_TOO_MANY_SEGMENTS = 5, /* a path, or the one merged of both, has more than 1,000,000 segments */
-  URIPARSE_NO_COMPONENT = 8,      /* of `uriparse_encode` alone: it writes no component with this number */
-  URIPARSE_NO_ORIGIN = 10,        /* of `uriparse_origin` alone: the reference has no origin */
-  URIPARSE_MISSING_HOST = 11,     /* of `uriparse_change` alone: a user name, a password or a port is set without a host */
-  URIPARSE_BAD_CHANGE = 12,       /* of `uriparse_change` alone: no `enum uriparse_action`, or bytes outside the values */
-  URIPARSE_BAD_NAMES = 13,        /* of `uriparse_drop_pairs` alone: `names` is no query */
-  URIPARSE_NO_PAIRS = 14,         /* of `uriparse_drop_pairs` alone: no pair of the query is left */
-  URIPARSE_TWO_SLASHES = 6,       /* of `uriparse_change` alone: without an authority the path would start with "//" */
-
-  URIPARSE_USERNAME_COLON = 0x10,  /* of `uriparse_change` alone: a ':' in the user name */
-  URIPARSE_USERNAME_BYTE = 0x11,   /* a byte that no user name has */
-  URIPARSE_USERNAME_ESCAPE = 0x12, /* a '%' that two hexadecimal digits don't follow */
-  URIPARSE_PASSWORD_BYTE = 0x21,
-  URIPARSE_PASSWORD_ESCAPE = 0x22,
-  URIPARSE_HOST_BYTE = 0x31,        /* a byte that no name has, or a '%' that two hexadecimal digits don't follow */
-  URIPARSE_HOST_IPV6_BYTE = 0x32,   /* in brackets, a byte that no IPv6 address has */
-  URIPARSE_HOST_IPV6_FORM = 0x33,   /* in brackets, no form of an IPv6 address */
-  URIPARSE_HOST_FUTURE_BYTE = 0x34, /* in brackets, after 'v', a byte that no address of a later version has */
-  URIPARSE_HOST_FUTURE_FORM = 0x35, /* in brackets, after 'v', no form of such an address */
-  URIPARSE_PORT_BYTE = 0x41,        /* a byte that is no digit */
-  URIPARSE_PORT_RANGE = 0x42,       /* the port is above 65535 */
-  URIPARSE_PATH_BYTE = 0x51,
-  URIPARSE_PATH_ESCAPE = 0x52,
-  URIPARSE_QUERY_BYTE = 0x61,
-  URIPARSE_QUERY_ESCAPE = 0x62,
-  URIPARSE_FRAGMENT_BYTE = 0x71,
-  URIPARSE_FRAGMENT_ESCAPE = 0x72,
-  URIPARSE_SCHEME_EMPTY = 0x80,  /* of `uriparse_change` alone, as the next two */
-  URIPARSE_SCHEME_BYTE = 0x81,   /* a byte that no scheme has */
-  URIPARSE_SCHEME_LETTER = 0x82, /* the first byte of the scheme is no letter */
+  URIPARSE_OUT_OF_MEMORY = 1,       /* Reserved: no call allocates. */
+  URIPARSE_NO_ROOM = 2,             /* `room` is too small: `*needed` bytes are enough. */
+  URIPARSE_NO_SCHEME = 3,           /* There is no scheme where a URI is expected, also in `1:2`. */
+  URIPARSE_COLON_IN_SEGMENT = 4,    /* Without a scheme, a colon precedes the path's first slash: `1:2`. */
+  URIPARSE_TOO_MANY_SEGMENTS = 5,   /* A path has more than 1,000,000 segments: that of the string, or that of a target. */
+  URIPARSE_TWO_SLASHES = 6,         /* Without an authority, the path of a changed reference would start with `//`. */
+  URIPARSE_NO_COMPONENT = 8,        /* `uriparse_encode` writes no component with this number. */
+  URIPARSE_NO_ORIGIN = 10,          /* The reference has no origin: returned by `uriparse_origin` alone. */
+  URIPARSE_MISSING_HOST = 11,       /* A change sets a user name, a password or a port of a reference without a host. */
+  URIPARSE_BAD_CHANGE = 12,         /* An unknown action, or bytes outside the values: returned by `uriparse_change` alone. */
+  URIPARSE_BAD_NAMES = 13,          /* The names of pairs are not a query. */
+  URIPARSE_NO_PAIRS = 14,           /* No pair of the query is left: returned by `uriparse_drop_pairs` alone. */
+  URIPARSE_NO_ADDRESS = 15,         /* The reference has no host that is an IPv4 or IPv6 address: returned by `uriparse_host_address` alone. */
+  URIPARSE_USERNAME_COLON = 0x10,   /* A colon in a user name that is set. */
+  URIPARSE_USERNAME_BYTE = 0x11,    /* A byte that no user name has. */
+  URIPARSE_USERNAME_ESCAPE = 0x12,  /* A `%` in the user name that two hexadecimal digits don't follow. */
+  URIPARSE_PASSWORD_BYTE = 0x21,    /* A byte that no password has. */
+  URIPARSE_PASSWORD_ESCAPE = 0x22,  /* A `%` in the password that two hexadecimal digits don't follow. */
+  URIPARSE_HOST_BYTE = 0x31,        /* A byte that no name of a host has, or a `%` that two hexadecimal digits don't follow. */
+  URIPARSE_HOST_IPV6_BYTE = 0x32,   /* In brackets, a byte that no IPv6 address has. */
+  URIPARSE_HOST_IPV6_FORM = 0x33,   /* In brackets, no form of an IPv6 address. */
+  URIPARSE_HOST_FUTURE_BYTE = 0x34, /* In brackets, after `v`, a byte that no address of a later version has. */
+  URIPARSE_HOST_FUTURE_FORM = 0x35, /* In brackets, after `v`, no form of such an address. */
+  URIPARSE_PORT_BYTE = 0x41,        /* A byte of the port that is no digit. */
+  URIPARSE_PORT_RANGE = 0x42,       /* The port is above 65535. */
+  URIPARSE_PATH_BYTE = 0x51,        /* A byte that no path has. */
+  URIPARSE_PATH_ESCAPE = 0x52,      /* A `%` in the path that two hexadecimal digits don't follow. */
+  URIPARSE_QUERY_BYTE = 0x61,       /* A byte that no query has. */
+  URIPARSE_QUERY_ESCAPE = 0x62,     /* A `%` in the query that two hexadecimal digits don't follow. */
+  URIPARSE_FRAGMENT_BYTE = 0x71,    /* A byte that no fragment has. */
+  URIPARSE_FRAGMENT_ESCAPE = 0x72,  /* A `%` in the fragment that two hexadecimal digits don't follow. */
+  URIPARSE_SCHEME_EMPTY = 0x80,     /* A scheme that is set is empty. */
+  URIPARSE_SCHEME_BYTE = 0x81,      /* A byte that no scheme has. */
+  URIPARSE_SCHEME_LETTER = 0x82,    /* The first byte of a scheme that is set is no letter. */
+  /* codes.tsv: end */
 
   URIPARSE_COMPONENT_MASK = 0xf0, /* the digit of a code that names the component */
   URIPARSE_IN_BASE = 0x100        /* added to a code: it is the base's error */
@@ -171,270 +172,8 @@ enum uriparse_component {
   URIPARSE_PAIR = 0x90     /* of `uriparse_encode` alone: a name or a value of a pair, in which '&', '=', '+' and '*' become escapes too */
 };
 
-#ifdef __cplusplus
-namespace uriparse_c {
-extern "C" {
-#endif
-
-/* Reads a URI or a relative reference (RFC 3986, section 4.1), and writes to `*parts` where its components are. The text
- * is a URI if `parts->scheme.present`. Returns URIPARSE_OK or the text's error. Does not allocate.
- *
- * The caller ensures: `text` is readable for `len` bytes; `parts` is writable. */
-uint32_t uriparse_parse(const uint8_t *text, size_t len, struct uriparse_parts *parts);
-
-/* Why a text is no reference, and where: returns the error that `uriparse_parse` returns, and writes to `*place` how many
- * bytes precede the text's first fault. Returns URIPARSE_OK if the text is a reference, and then leaves `*place` as it
- * was.
- *
- * The place of a wrong byte is its own, of an escape without two digits that of its '%', and of one segment too many that
- * of the slash before it. An address of a wrong form is wrong at its '[', a port that is too large at its first digit,
- * and a path with a colon where none may be at its first byte. A place is less than `len`. Reads a faulty text again.
- * Does not allocate.
- *
- * The caller ensures: `text` is readable for `len` bytes; `place` is writable. */
-uint32_t uriparse_first_fault(const uint8_t *text, size_t len, size_t *place);
-
-/* Whether a text is a URI: a reference that has a scheme. Does not allocate.
- *
- * The caller ensures: `text` is readable for `len` bytes. */
-bool uriparse_is_uri(const uint8_t *text, size_t len);
-
-/* Writes to `*equal` whether two references are equal: whether their hosts, if they have any, are of one kind, and
- * their texts, in the form that calls write (see `uriparse_normalize`), differ at most in the case of schemes, hosts and
- * hexadecimal digits and in percent-encoding of unreserved characters ("%7e" and "~", but not "%2F" and "/"). Dot
- * segments count: normalize first if they shouldn't, but see the warning at `uriparse_normalize`. If both texts are
- * faulty, the error is the left one's. Does not allocate.
- *
- * The caller ensures: each text is readable for its length; `equal` is writable. */
-uint32_t uriparse_equal(const uint8_t *left, size_t left_len, const uint8_t *right, size_t right_len, bool *equal);
-
-/* Writes to `*order` -1, 0 or 1: whether the left reference is less than the right one, equal to it or greater. The first
- * component that differs decides, in the order scheme, authority, path, query, fragment, each in the spelling by which
- * `uriparse_equal` compares; an absent one is less than any that is present. Hosts of one kind are compared by their
- * bytes, ports as numbers. It is 0 exactly if `uriparse_equal` writes true. If both texts are faulty, the error is the
- * left one's. Does not allocate.
- *
- * The caller ensures: each text is readable for its length; `order` is writable. */
-uint32_t uriparse_compare(const uint8_t *left, size_t left_len, const uint8_t *right, size_t right_len, int32_t *order);
-
-/* Writes to `*within` whether a URI is below another one: whether the schemes are equal, the authorities too, each with the
- * port that it names or the scheme's default port, and the path, without dot segments, begins with the directory of the
- * base's path, through its last slash. Segments are compared whole and in canonical spelling, so "/appX", "/app/../admin"
- * and "/app/%2e%2e/admin" are not below "/app/". User information must be equal or absent in both. The query and the
- * fragment don't count. A base whose path has no slash has nothing below it but what has the same path.
- *
- * A URI isn't below the base if a segment after the directory is one that servers read in different ways: one with an
- * escaped '/', '\', '%' or zero byte, or "." or ".." followed by ';' or by an escaped ';', '?' or '#' ("/app/..;/admin",
- * "/app/..%2fadmin"). Nor is it if a double-dot segment of its path removes such a segment, or one that is empty or has nothing
- * before one of these ("/app/..;/../a", "/app//../a"). The segments of the directory itself aren't looked at.
- *
- * Hand on the normal form, or the target of `uriparse_resolve`, not the text: in that a server that doesn't take "%2e%2e" for
- * ".." reads another path.
- *
- * Both texts need a scheme (URIPARSE_NO_SCHEME). If both are faulty, the error is the first one's. Does not allocate.
- *
- * The caller ensures: each text is readable for its length; `within` is writable. */
-uint32_t uriparse_is_within(const uint8_t *text, size_t len, const uint8_t *base, size_t base_len, bool *within);
-
-/* Writes to `*within` whether the host of a reference is a domain or within it: whether the hosts are equal, or both are names
- * and the labels of the reference's host, which dots separate, end with all labels of the domain. Names are compared in
- * canonical spelling, and one dot at the end of either is ignored. "evilexample.com" isn't within "example.com". A name
- * with an empty label is within nothing but its equals, and so is an address, and a name whose canonical spelling is that
- * of an IPv4 address. A name with an escape in canonical spelling, such as "evil.org%2F.example.com", is within nothing but its
- * equals, and nothing else is within it. Without a host it is false.
- *
- * The domain is a host as `uriparse_parse` finds it; its error has URIPARSE_IN_BASE. If both texts are faulty, the error is
- * the reference's. Does not allocate.
- *
- * The caller ensures: each text is readable for its length; `within` is writable. */
-uint32_t uriparse_host_is_within(const uint8_t *text, size_t len, const uint8_t *domain, size_t domain_len, bool *within);
-
-/* Writes to `*flags` the sum of the enum uriparse_host_flag of the reference's host, or 0 without a host. Does not allocate.
- *
- * The caller ensures: `text` is readable for `len` bytes; `flags` is writable. */
-uint32_t uriparse_host_flags(const uint8_t *text, size_t len, uint32_t *flags);
-
-/* The default port of the scheme of this name, or 0 if it has none that is known or if the text is no scheme. It is 443 of
- * "https". Does not allocate.
- *
- * The caller ensures: `scheme` is readable for `len` bytes. */
-uint32_t uriparse_default_port(const uint8_t *scheme, size_t len);
-
-/* Writes to `*hash` a hash of a reference: equal references have equal hashes, on every machine and in every run. It is
- * SipHash-1-3 with both keys 0; the key isn't secret, so it doesn't protect a hash table from texts chosen to collide.
- * Does not allocate.
- *
- * The caller ensures: `text` is readable for `len` bytes; `hash` is writable. */
-uint32_t uriparse_hash(const uint8_t *text, size_t len, uint64_t *hash);
-
-/* Writes to `out` the text of a reference's normal form (section 6.2.2: case, percent-encoding, dot segments), and to
- * `*needed` its length. If `room` is less, returns URIPARSE_NO_ROOM, and `out` is unchanged. No zero byte follows the
- * text; what follows it in `out` is unchanged. Does not allocate.
- *
- * In each text that this call, `uriparse_resolve` and `uriparse_relativize` write, a registered scheme is in lower case, a
- * port has no leading zeros, an empty port is omitted, an IPv6 address is as RFC 5952 writes it, and an empty path after
- * an authority is "/".
- *
- * A text doesn't keep the kind of a host. "//%31.2.3.4" has a name, which `uriparse_equal` tells from the address 1.2.3.4;
- * its normal form has the text "//1.2.3.4", which has the address. So two normal forms may have equal texts although their
- * references differ. To tell such hosts apart, keep the text that was read. Any other text that is written is read back
- * as what it was written for.
- *
- * The caller ensures: `text` is readable for `len` bytes; `out` is writable for `room` bytes; `needed` is writable. */
-uint32_t uriparse_normalize(const uint8_t *text, size_t len, uint8_t *out, size_t room, size_t *needed);
-
-/* Resolves a reference against a base (section 5.2.2, strict), and writes the text of the target to `out` as
- * `uriparse_normalize` does. A base without a scheme is rejected; a base's fragment is ignored. If both texts are
- * faulty, the error is the base's. Returns URIPARSE_TOO_MANY_SEGMENTS if the merged paths have more segments than a
- * path may have. Does not allocate.
- *
- * The caller ensures: each text is readable for its length; `out` is writable for `room` bytes; `needed` is writable. */
-uint32_t uriparse_resolve(const uint8_t *base, size_t base_len, const uint8_t *text, size_t len, uint8_t *out,
-                          size_t room, size_t *needed);
-
-/* Writes to `out` the text of the reference that leads from a base to a URI, as `uriparse_normalize` does: resolved against
- * the base, it yields what the URI itself yields, which is the URI again if its path has no dot segments. It is "../g#s" of
- * "http://a/b/c/d" and "http://a/b/g#s".
- *
- * It omits what both have in the same spelling, from the front: the scheme, then the authority, then directories; and the
- * query if all before it is the same. A relative path has a ".." for each directory of the base that the URI isn't in. Where
- * none leads there, as to or from a path with dot segments, the reference has the whole path, or the authority or the scheme
- * too. A base or a URI without a scheme is rejected; a base's fragment is ignored. If both texts are faulty, the
- * error is the base's. Does not allocate.
- *
- * The caller ensures: each text is readable for its length; `out` is writable for `room` bytes; `needed` is writable. */
-uint32_t uriparse_relativize(const uint8_t *base, size_t base_len, const uint8_t *text, size_t len, uint8_t *out,
-                             size_t room, size_t *needed);
-
-/* Writes to `out` the text of the origin of a URI (RFC 6454, sections 4 and 6.2), as `uriparse_normalize` does: its scheme,
- * its host and, unless that is the scheme's default port, its port. It is "https://example.com" of
- * "HTTPS://u@EXAMPLE.com:443/b?c". The URIs of one origin have one text; a host is written without IDNA.
- *
- * Returns URIPARSE_NO_ORIGIN for a reference that has no scheme, no host or an empty host ("http:///a"), or for which neither
- * the authority names a port nor the scheme has a default one ("file:///a"). By RFC 6454 such a URI has an origin of its own,
- * which no other has.
- *
- * The text doesn't keep the kind of a host, as with normal forms: "http://%31.2.3.4" has a name and "http://1.2.3.4" an address,
- * and both have the origin text "http://1.2.3.4". To tell such hosts apart, keep the text that was read. Does not allocate.
- *
- * The caller ensures: `text` is readable for `len` bytes; `out` is writable for `room` bytes; `needed` is writable. */
-uint32_t uriparse_origin(const uint8_t *text, size_t len, uint8_t *out, size_t room, size_t *needed);
-
-/* Writes to `out` the string of a reference with some components changed, as `uriparse_normalize` does. All changes are
- * made at once; a component that is kept keeps its bytes. The values are strings without delimiters, as the fields of
- * `struct uriparse_parts` are, each among the bytes `values`.
- *
- * Setting a host makes an authority, and removing it removes the authority. A user name, a password or a port that is set
- * without a host is an error. Setting a password brings an empty user name, and removing the user name removes a password
- * that is kept. After an authority a path that isn't empty gets a leading '/'; an empty one stands for "/", and becomes
- * that if the authority is removed.
- *
- * The first error is returned: that of the text as it is, also in a component that changes, then URIPARSE_BAD_CHANGE,
- * URIPARSE_MISSING_HOST, then the error of the first component of the result, in the order of the fields, which is as a
- * reader of that component alone reports it. Without an authority the path may not start with "//"
- * (URIPARSE_TWO_SLASHES), and with neither a scheme nor an authority no colon precedes its first slash
- * (URIPARSE_COLON_IN_SEGMENT). Does not allocate.
- *
- * The caller ensures: `text` is readable for `len` bytes and `values` for `values_len`; `changes` is initialized; `out` is
- * writable for `room` bytes; `needed` is writable. */
-uint32_t uriparse_change(const uint8_t *text, size_t len, const struct uriparse_changes *changes, const uint8_t *values,
-                         size_t values_len, uint8_t *out, size_t room, size_t *needed);
-
-/* Writes to `*pair` where the pair is that begins at `at` in a query, and where the next one begins. Returns whether there
- * is one: if `at` is greater than `len` there is none, and `*pair` is unchanged. To read all pairs:
- *
- *     struct uriparse_pair pair;
- *     for (size_t at = 0; uriparse_next_pair(query, len, at, &pair); at = pair.next) { .. }
- *
- * The pairs are the pieces between the '&', and the first '=' of a piece ends its name. Each query has a pair at least: that
- * of an empty piece has an empty name and no value. Names and values are as they stand in the text: `uriparse_decode` reads
- * each, and leaves a "+" as it is. Any text is cut like that. RFC 3986 knows of such pairs only as a habit (section 3.4).
- * Reads this pair alone. Does not allocate.
- *
- * The caller ensures: `query` is readable for `len` bytes; `pair` is writable. */
-bool uriparse_next_pair(const uint8_t *query, size_t len, size_t at, struct uriparse_pair *pair);
-
-/* Writes to `*pair` where the first pair is whose name stands for the bytes of `name`, as `uriparse_next_pair` does, and
- * returns whether there is one. If there is none, `*pair` is unchanged. The names are compared by the bytes that they stand
- * for: "%61" is 'a', and a "+" is no space. `name` itself is plain bytes, in which "%61" is three. To find the next pair of
- * the name, search the bytes from `pair.next` on. Does not allocate.
- *
- * The caller ensures: `query` is readable for `len` bytes and `name` for `name_len`; `pair` is writable. */
-bool uriparse_find_pair(const uint8_t *query, size_t len, const uint8_t *name, size_t name_len, struct uriparse_pair *pair);
-
-/* Writes to `out` the query with one pair of this name, as `uriparse_decode` writes: the pair stands in place of the first one
- * whose name stands for the same bytes, and the others of that name are left out. If there is none, the pair follows all
- * others, in place of an empty piece at the end: "" becomes "a=1", and "b&" becomes "b&a=1". Each byte of the name and the
- * value is encoded as `uriparse_encode` does for URIPARSE_PAIR; all other pairs keep their bytes. Without `has_value` the pair
- * is the name alone, without '=', and the bytes of `value` don't count. Returns URIPARSE_QUERY_BYTE or URIPARSE_QUERY_ESCAPE
- * for a text that is no query. Does not allocate.
- *
- * The caller ensures: `query` is readable for `len` bytes, `name` for `name_len` and `value` for `value_len`; `out` is writable
- * for `room` bytes; `needed` is writable. */
-uint32_t uriparse_set_pair(const uint8_t *query, size_t len, const uint8_t *name, size_t name_len, const uint8_t *value,
-                           size_t value_len, bool has_value, uint8_t *out, size_t room, size_t *needed);
-
-/* The same, but all pairs of the query stay, and the new one follows them, in place of an empty piece at the end. Does not
- * allocate.
- *
- * The caller ensures: `query` is readable for `len` bytes, `name` for `name_len` and `value` for `value_len`; `out` is writable
- * for `room` bytes; `needed` is writable. */
-uint32_t uriparse_append_pair(const uint8_t *query, size_t len, const uint8_t *name, size_t name_len, const uint8_t *value,
-                              size_t value_len, bool has_value, uint8_t *out, size_t room, size_t *needed);
-
-/* Writes to `out` the query without the pairs of some names, as `uriparse_decode` writes. `names` is written like a query, and
- * its names are meant: "gclid&utm_*". A name that ends in '*' stands for each name that begins with what precedes the '*'
- * ("%2A" is a '*' of the name itself). The names are compared by the bytes that they stand for: "utm_*" leaves out
- * "%75tm_id=1". The other pairs stay in order, byte for byte. If no pair is left, returns URIPARSE_NO_PAIRS, with `*needed` 0
- * and `out` unchanged: remove the query then (an empty query is one pair with an empty name). Returns URIPARSE_QUERY_BYTE or
- * URIPARSE_QUERY_ESCAPE for a text that is no query, and then URIPARSE_BAD_NAMES if `names` is none. Takes time in proportion to
- * the length of the query times the number of names. Does not allocate.
- *
- * The caller ensures: `query` is readable for `len` bytes and `names` for `names_len`; `out` is writable for `room` bytes;
- * `needed` is writable. */
-uint32_t uriparse_drop_pairs(const uint8_t *query, size_t len, const uint8_t *names, size_t names_len, uint8_t *out,
-                             size_t room, size_t *needed);
-
-/* Writes to `out` the bytes that the text of a component stands for, and to `*needed` their number: each escape as its
- * byte, each other byte as it is, so a "+" stays. If `room` is less, returns URIPARSE_NO_ROOM, and `out` is
- * unchanged. The text is that of a query, as the texts of user names, passwords, names of hosts, paths and fragments are
- * too; for another text returns URIPARSE_QUERY_BYTE or URIPARSE_QUERY_ESCAPE. Does not allocate.
- *
- * Cut a query or a path at its delimiters before you decode its pieces, a query by `uriparse_next_pair`: "%26" and "&"
- * become the same byte.
- *
- * The caller ensures: `text` is readable for `len` bytes; `out` is writable for `room` bytes; `needed` is writable. */
-uint32_t uriparse_decode(const uint8_t *text, size_t len, uint8_t *out, size_t room, size_t *needed);
-
-/* Writes to `out` any bytes as the text of a component, one of uriparse_component, as `uriparse_decode` writes: a byte
- * that the component may have stays, and each other becomes an escape with upper-case digits, '%' too.
- * `uriparse_decode` returns the bytes again. In a query '&', '=', '+' and '*' stay; as URIPARSE_PAIR they become escapes too,
- * so a name or a value can be made of any bytes: "a&b=c d+" becomes "a%26b%3Dc%20d%2B", and "a*" becomes "a%2A", which
- * `uriparse_drop_pairs` takes for that name alone. Returns URIPARSE_NO_COMPONENT for a
- * host, a port or another number. Does not allocate.
- *
- * The caller ensures: `bytes` is readable for `len` bytes; `out` is writable for `room` bytes; `needed` is writable. */
-uint32_t uriparse_encode(uint32_t component, const uint8_t *bytes, size_t len, uint8_t *out, size_t room,
-                         size_t *needed);
-
-/* Makes a reference of any text and writes it to `out` as `uriparse_decode` does. Each byte that RFC 3986 doesn't allow in its
- * place is percent-encoded, except the delimiters of an authority; all else stays. So the text of a reference stays, and
- * a second call changes nothing. Bytes that aren't ASCII are percent-encoded, also in the name of a host, as RFC 3987,
- * section 3.1, does with IRIs in UTF-8. A '%' without two hexadecimal digits becomes "%25". The result may still be
- * rejected: for its authority, which keeps its delimiters, for too many segments, or by the colon rule. Does not allocate.
- *
- * The caller ensures: `text` is readable for `len` bytes; `out` is writable for `room` bytes; `needed` is writable. */
-uint32_t uriparse_escape(const uint8_t *text, size_t len, uint8_t *out, size_t room, size_t *needed);
-
-#ifdef __cplusplus
-} // extern "C"
-} // namespace uriparse_c
-#endif
-
-/* The functions themselves accept no NULL. With what follows, inline functions that have the functions' names, each call
- * accepts NULL with length 0. NULL with a greater length ends the program by `abort`. In C a text is of any type. In C++ it
- * is of `char`, of another type of bytes or of `void`, so that the address of a `std::string` isn't taken for its
- * bytes; and the functions themselves are in the namespace `uriparse_c`. */
+/* A pointer to the bytes of a text, and one to a buffer. In C++ these are of `char`, of another type of bytes or of `void`, so that
+ * the address of a `std::string` isn't taken for its bytes. Both processors pass such a class as the pointer that it has. */
 #ifdef __cplusplus
 extern "C++" {
 
@@ -471,243 +210,267 @@ public:
   template <class Other> uriparse_buffer(Other *, typename uriparse_type<Other>::is_no_byte = 0) = delete;
   operator void *() const { return at_; }
 };
+} // extern "C++"
 
-#define URIPARSE_INLINE inline
-#define URIPARSE_CAST(type, value) static_cast<type>(value)
-#define URIPARSE_CALL(name) uriparse_##name
-#define URIPARSE_PROVED(name) uriparse_c::uriparse_##name
+extern "C" {
 #else
 typedef const void *uriparse_bytes;
 typedef void *uriparse_buffer;
-
-#define URIPARSE_INLINE static inline
-#define URIPARSE_CAST(type, value) ((type)(value))
-#define URIPARSE_CALL(name) uriparse_##name##_
-#define URIPARSE_PROVED(name) uriparse_##name
 #endif
 
-/* A pointer for a text, or for a buffer, that isn't NULL. */
-URIPARSE_INLINE const uint8_t *uriparse_text(const void *text, size_t len) {
-  if (text == NULL && len > 0) abort();
-  return URIPARSE_CAST(const uint8_t *, text != NULL ? text : "");
-}
+/* Reads a URI or a relative reference (RFC 3986, section 4.1), and writes to `*parts` where its components are. The text
+ * is a URI if `parts->scheme.present`. Returns URIPARSE_OK or the text's error. */
+uint32_t uriparse_parse(uriparse_bytes text, size_t len, struct uriparse_parts *parts);
 
-URIPARSE_INLINE uint8_t *uriparse_room(void *out, size_t room) {
-  static uint8_t none;
-  if (out == NULL && room > 0) abort();
-  return out != NULL ? URIPARSE_CAST(uint8_t *, out) : &none;
-}
+/* Why a text is no reference, and where: returns the error that `uriparse_parse` returns, and writes to `*place` how many
+ * bytes precede the text's first fault. Returns URIPARSE_OK if the text is a reference, and then leaves `*place` as it
+ * was.
+ *
+ * The place of a wrong byte is its own, of an escape without two digits that of its '%', and of one segment too many that
+ * of the slash before it. An address of a wrong form is wrong at its '[', a port that is too large at its first digit,
+ * and a path with a colon where none may be at its first byte. A place is less than `len`. Reads a faulty text again. */
+uint32_t uriparse_first_fault(uriparse_bytes text, size_t len, size_t *place);
 
-URIPARSE_INLINE uint32_t URIPARSE_CALL(parse)(uriparse_bytes text, size_t len, struct uriparse_parts *parts) {
-  return URIPARSE_PROVED(parse)(uriparse_text(text, len), len, parts);
-}
+/* Whether a text is a URI: a reference that has a scheme. */
+bool uriparse_is_uri(uriparse_bytes text, size_t len);
 
-URIPARSE_INLINE uint32_t URIPARSE_CALL(first_fault)(uriparse_bytes text, size_t len, size_t *place) {
-  return URIPARSE_PROVED(first_fault)(uriparse_text(text, len), len, place);
-}
+/* Writes to `*equal` whether two references are equal: whether their hosts, if they have any, are of one kind, and
+ * their texts, in the form that calls write (see `uriparse_normalize`), differ at most in the case of schemes, hosts and
+ * hexadecimal digits and in percent-encoding of unreserved characters ("%7e" and "~", but not "%2F" and "/"). Dot
+ * segments count: normalize first if they shouldn't, but see the warning at `uriparse_normalize`. If both texts are
+ * faulty, the error is the left one's. */
+uint32_t uriparse_equal(uriparse_bytes left, size_t left_len, uriparse_bytes right, size_t right_len, bool *equal);
 
-URIPARSE_INLINE bool URIPARSE_CALL(is_uri)(uriparse_bytes text, size_t len) {
-  return URIPARSE_PROVED(is_uri)(uriparse_text(text, len), len);
-}
+/* Writes to `*order` -1, 0 or 1: whether the left reference is less than the right one, equal to it or greater. The first
+ * component that differs decides, in the order scheme, authority, path, query, fragment, each in the spelling by which
+ * `uriparse_equal` compares; an absent one is less than any that is present. Hosts of one kind are compared by their
+ * bytes, ports as numbers. It is 0 exactly if `uriparse_equal` writes true. If both texts are faulty, the error is the
+ * left one's. */
+uint32_t uriparse_compare(uriparse_bytes left, size_t left_len, uriparse_bytes right, size_t right_len, int32_t *order);
 
-URIPARSE_INLINE uint32_t URIPARSE_CALL(equal)(uriparse_bytes left, size_t left_len, uriparse_bytes right, size_t right_len,
-                                              bool *equal) {
-  return URIPARSE_PROVED(equal)(uriparse_text(left, left_len), left_len, uriparse_text(right, right_len), right_len, equal);
-}
+/* Writes to `*same` whether two references both have an origin, as `uriparse_origin` finds it, and it is the same one: the
+ * schemes are equal, the hosts and the ports, each the one that is named or the scheme's default one (RFC 6454, section 5).
+ * It is false if either has no origin, also of a reference and itself. Hosts of different kinds differ, as in
+ * `uriparse_equal`. If both texts are faulty, the error is the left one's. */
+uint32_t uriparse_same_origin(uriparse_bytes left, size_t left_len, uriparse_bytes right, size_t right_len, bool *same);
 
-URIPARSE_INLINE uint32_t URIPARSE_CALL(compare)(uriparse_bytes left, size_t left_len, uriparse_bytes right, size_t right_len,
-                                                int32_t *order) {
-  return URIPARSE_PROVED(compare)(uriparse_text(left, left_len), left_len, uriparse_text(right, right_len), right_len,
-                                  order);
-}
+/* Writes to `*normalized` whether a reference is its own normal form: whether `uriparse_normalize` writes the text itself. */
+uint32_t uriparse_is_normalized(uriparse_bytes text, size_t len, bool *normalized);
 
-URIPARSE_INLINE uint32_t URIPARSE_CALL(is_within)(uriparse_bytes text, size_t len, uriparse_bytes base, size_t base_len,
-                                                  bool *within) {
-  return URIPARSE_PROVED(is_within)(uriparse_text(text, len), len, uriparse_text(base, base_len), base_len, within);
-}
+/* Writes to `*within` whether a URI is below another one: whether the schemes are equal, the authorities too, each with the
+ * port that it names or the scheme's default port, and the path, without dot segments, begins with the directory of the
+ * base's path, through its last slash. Segments are compared whole and in canonical spelling, so "/appX", "/app/../admin"
+ * and "/app/%2e%2e/admin" are not below "/app/". User information must be equal or absent in both. The query and the
+ * fragment don't count. A base whose path has no slash has nothing below it but what has the same path.
+ *
+ * A URI isn't below the base if a segment after the directory is one that servers read in different ways: one with an
+ * escaped '/', '\', '%' or zero byte, or "." or ".." followed by ';' or by an escaped ';', '?' or '#' ("/app/..;/admin",
+ * "/app/..%2fadmin"). Nor is it if a double-dot segment of its path removes such a segment, or one that is empty or has nothing
+ * before one of these ("/app/..;/../a", "/app//../a"). The segments of the directory itself aren't looked at.
+ *
+ * Hand on the normal form, or the target of `uriparse_resolve`, not the text: in that a server that doesn't take "%2e%2e" for
+ * ".." reads another path.
+ *
+ * Both texts need a scheme (URIPARSE_NO_SCHEME). If both are faulty, the error is the first one's. */
+uint32_t uriparse_is_within(uriparse_bytes text, size_t len, uriparse_bytes base, size_t base_len, bool *within);
 
-URIPARSE_INLINE uint32_t URIPARSE_CALL(host_is_within)(uriparse_bytes text, size_t len, uriparse_bytes domain,
-                                                       size_t domain_len, bool *within) {
-  return URIPARSE_PROVED(host_is_within)(uriparse_text(text, len), len, uriparse_text(domain, domain_len), domain_len,
-                                         within);
-}
+/* Writes to `*within` whether the host of a reference is a domain or within it: whether the hosts are equal, or both are names
+ * and the labels of the reference's host, which dots separate, end with all labels of the domain. Names are compared in
+ * canonical spelling, and one dot at the end of either is ignored. "evilexample.com" isn't within "example.com". A name
+ * with an empty label is within nothing but its equals, and so is an address, and a name whose canonical spelling is that
+ * of an IPv4 address. A name with an escape in canonical spelling, such as "evil.org%2F.example.com", is within nothing but its
+ * equals, and nothing else is within it. Without a host it is false.
+ *
+ * The domain is a host as `uriparse_parse` finds it; its error has URIPARSE_IN_BASE. If both texts are faulty, the error is
+ * the reference's. */
+uint32_t uriparse_host_is_within(uriparse_bytes text, size_t len, uriparse_bytes domain, size_t domain_len,
+                                 bool *within);
 
-URIPARSE_INLINE uint32_t URIPARSE_CALL(host_flags)(uriparse_bytes text, size_t len, uint32_t *flags) {
-  return URIPARSE_PROVED(host_flags)(uriparse_text(text, len), len, flags);
-}
+/* Writes to `*flags` the sum of the enum uriparse_host_flag of the reference's host, or 0 without a host. */
+uint32_t uriparse_host_flags(uriparse_bytes text, size_t len, uint32_t *flags);
 
-URIPARSE_INLINE uint32_t URIPARSE_CALL(default_port)(uriparse_bytes scheme, size_t len) {
-  return URIPARSE_PROVED(default_port)(uriparse_text(scheme, len), len);
-}
+/* Writes to `*ambiguous` whether readers disagree on what a segment of a path names: whether it has an escaped '/', '\', '%' or
+ * zero byte, or is "." or ".." followed by ';' or by an escaped ';', '?' or '#' ("..;a", "a%2fb"). A segment is what stands
+ * between two slashes; ".." and "%2e%2e" are not ambiguous. For a text that is no segment, as one with a '/', returns
+ * URIPARSE_PATH_BYTE or URIPARSE_PATH_ESCAPE. */
+uint32_t uriparse_is_ambiguous(uriparse_bytes segment, size_t len, bool *ambiguous);
 
-URIPARSE_INLINE uint32_t URIPARSE_CALL(hash)(uriparse_bytes text, size_t len, uint64_t *hash) {
-  return URIPARSE_PROVED(hash)(uriparse_text(text, len), len, hash);
-}
+/* Writes to `*port` the port of a reference, or the default port of its scheme if its authority names none, or -1 if it has
+ * neither. Without an authority it is -1. An empty port ("h:") counts as absent. */
+uint32_t uriparse_port_or_default(uriparse_bytes text, size_t len, int32_t *port);
 
-URIPARSE_INLINE uint32_t URIPARSE_CALL(normalize)(uriparse_bytes text, size_t len, uriparse_buffer out, size_t room,
-                                                  size_t *needed) {
-  return URIPARSE_PROVED(normalize)(uriparse_text(text, len), len, uriparse_room(out, room), room, needed);
-}
+/* Writes to `out` the bytes of the address that is the host of a reference, as `uriparse_decode` writes: 4 of an IPv4 address, 16 of
+ * an IPv6 address, the most significant first. Returns URIPARSE_NO_ADDRESS for a reference with another host or without one. A
+ * name isn't looked up, and one that may be taken for an address, such as "127.1" or "%31.2.3.4", has none: see
+ * `uriparse_host_flags`. */
+uint32_t uriparse_host_address(uriparse_bytes text, size_t len, uriparse_buffer out, size_t room, size_t *needed);
 
-URIPARSE_INLINE uint32_t URIPARSE_CALL(resolve)(uriparse_bytes base, size_t base_len, uriparse_bytes text, size_t len,
-                                                uriparse_buffer out, size_t room, size_t *needed) {
-  return URIPARSE_PROVED(resolve)(uriparse_text(base, base_len), base_len, uriparse_text(text, len), len,
-                                  uriparse_room(out, room), room, needed);
-}
+/* The default port of the scheme of this name, or 0 if it has none that is known or if the text is no scheme. It is 443 of
+ * "https". */
+uint32_t uriparse_default_port(uriparse_bytes scheme, size_t len);
 
-URIPARSE_INLINE uint32_t URIPARSE_CALL(relativize)(uriparse_bytes base, size_t base_len, uriparse_bytes text, size_t len,
-                                                   uriparse_buffer out, size_t room, size_t *needed) {
-  return URIPARSE_PROVED(relativize)(uriparse_text(base, base_len), base_len, uriparse_text(text, len), len,
-                                     uriparse_room(out, room), room, needed);
-}
+/* Writes to `*hash` a hash of a reference: equal references have equal hashes, on every machine, in every run and in later
+ * versions. It is SipHash-1-3 with both keys 0; the key isn't secret, so it doesn't protect a hash table from texts chosen to collide. */
+uint32_t uriparse_hash(uriparse_bytes text, size_t len, uint64_t *hash);
 
-URIPARSE_INLINE uint32_t URIPARSE_CALL(origin)(uriparse_bytes text, size_t len, uriparse_buffer out, size_t room,
-                                               size_t *needed) {
-  return URIPARSE_PROVED(origin)(uriparse_text(text, len), len, uriparse_room(out, room), room, needed);
-}
+/* Writes to `out` the text of a reference's normal form (section 6.2.2: case, percent-encoding, dot segments), and to
+ * `*needed` its length. If `room` is less, returns URIPARSE_NO_ROOM, and `out` is unchanged. No zero byte follows the
+ * text; what follows it in `out` is unchanged.
+ *
+ * In each text that this call, `uriparse_resolve` and `uriparse_relativize` write, a registered scheme is in lower case, a
+ * port has no leading zeros, an empty port is omitted, an IPv6 address is as RFC 5952 writes it, and an empty path after
+ * an authority is "/".
+ *
+ * A text doesn't keep the kind of a host. "//%31.2.3.4" has a name, which `uriparse_equal` tells from the address 1.2.3.4;
+ * its normal form has the text "//1.2.3.4", which has the address. So two normal forms may have equal texts although their
+ * references differ. To tell such hosts apart, keep the text that was read. Any other text that is written is read back
+ * as what it was written for. */
+uint32_t uriparse_normalize(uriparse_bytes text, size_t len, uriparse_buffer out, size_t room, size_t *needed);
 
-URIPARSE_INLINE uint32_t URIPARSE_CALL(change)(uriparse_bytes text, size_t len, const struct uriparse_changes *changes,
-                                               uriparse_bytes values, size_t values_len, uriparse_buffer out, size_t room,
-                                               size_t *needed) {
-  return URIPARSE_PROVED(change)(uriparse_text(text, len), len, changes, uriparse_text(values, values_len), values_len,
-                                 uriparse_room(out, room), room, needed);
-}
+/* Resolves a reference against a base (section 5.2.2, strict), and writes the text of the target to `out` as
+ * `uriparse_normalize` does. A base without a scheme is rejected; a base's fragment is ignored. If both texts are
+ * faulty, the error is the base's. Returns URIPARSE_TOO_MANY_SEGMENTS if the merged paths have more segments than a
+ * path may have. */
+uint32_t uriparse_resolve(uriparse_bytes base, size_t base_len, uriparse_bytes text, size_t len, uriparse_buffer out,
+                          size_t room, size_t *needed);
 
-URIPARSE_INLINE bool URIPARSE_CALL(next_pair)(uriparse_bytes query, size_t len, size_t at, struct uriparse_pair *pair) {
-  return URIPARSE_PROVED(next_pair)(uriparse_text(query, len), len, at, pair);
-}
+/* Writes to `out` the text of the reference that leads from a base to a URI, as `uriparse_normalize` does: resolved against
+ * the base, it yields what the URI itself yields, which is the URI again if its path has no dot segments. It is "../g#s" of
+ * "http://a/b/c/d" and "http://a/b/g#s".
+ *
+ * It omits what both have in the same spelling, from the front: the scheme, then the authority, then directories; and the
+ * query if all before it is the same. A relative path has a ".." for each directory of the base that the URI isn't in. Where
+ * none leads there, as to or from a path with dot segments, the reference has the whole path, or the authority or the scheme
+ * too. A base or a URI without a scheme is rejected; a base's fragment is ignored. If both texts are faulty, the
+ * error is the base's. */
+uint32_t uriparse_relativize(uriparse_bytes base, size_t base_len, uriparse_bytes text, size_t len, uriparse_buffer out,
+                             size_t room, size_t *needed);
 
-URIPARSE_INLINE bool URIPARSE_CALL(find_pair)(uriparse_bytes query, size_t len, uriparse_bytes name, size_t name_len,
-                                              struct uriparse_pair *pair) {
-  return URIPARSE_PROVED(find_pair)(uriparse_text(query, len), len, uriparse_text(name, name_len), name_len, pair);
-}
+/* Writes to `out` the text of the origin of a URI (RFC 6454, sections 4 and 6.2), as `uriparse_normalize` does: its scheme,
+ * its host and, unless that is the scheme's default port, its port. It is "https://example.com" of
+ * "HTTPS://u@EXAMPLE.com:443/b?c". The URIs of one origin have one text; a host is written without IDNA.
+ *
+ * Returns URIPARSE_NO_ORIGIN for a reference that has no scheme, no host or an empty host ("http:///a"), or for which neither
+ * the authority names a port nor the scheme has a default one ("file:///a"). By RFC 6454 such a URI has an origin of its own,
+ * which no other has.
+ *
+ * The text doesn't keep the kind of a host, as with normal forms: "http://%31.2.3.4" has a name and "http://1.2.3.4" an address,
+ * and both have the origin text "http://1.2.3.4". To tell such hosts apart, keep the text that was read. */
+uint32_t uriparse_origin(uriparse_bytes text, size_t len, uriparse_buffer out, size_t room, size_t *needed);
 
-URIPARSE_INLINE uint32_t URIPARSE_CALL(set_pair)(uriparse_bytes query, size_t len, uriparse_bytes name, size_t name_len,
-                                                 uriparse_bytes value, size_t value_len, bool has_value, uriparse_buffer out,
-                                                 size_t room, size_t *needed) {
-  return URIPARSE_PROVED(set_pair)(uriparse_text(query, len), len, uriparse_text(name, name_len), name_len,
-                                   uriparse_text(value, value_len), value_len, has_value, uriparse_room(out, room), room,
-                                   needed);
-}
+/* Writes to `out` the string of a reference with some components changed, as `uriparse_normalize` does. All changes are
+ * made at once; a component that is kept keeps its bytes. The values are strings without delimiters, as the fields of
+ * `struct uriparse_parts` are, each among the bytes `values`.
+ *
+ * Setting a host makes an authority, and removing it removes the authority. A user name, a password or a port that is set
+ * without a host is an error. Setting a password brings an empty user name, and removing the user name removes a password
+ * that is kept. After an authority a path that isn't empty gets a leading '/'; an empty one stands for "/", and becomes
+ * that if the authority is removed.
+ *
+ * The first error is returned: that of the text as it is, also in a component that changes, then URIPARSE_BAD_CHANGE,
+ * URIPARSE_MISSING_HOST, then the error of the first component of the result, in the order of the fields, which is as a
+ * reader of that component alone reports it. Without an authority the path may not start with "//"
+ * (URIPARSE_TWO_SLASHES), and with neither a scheme nor an authority no colon precedes its first slash
+ * (URIPARSE_COLON_IN_SEGMENT). */
+uint32_t uriparse_change(uriparse_bytes text, size_t len, const struct uriparse_changes *changes, uriparse_bytes values,
+                         size_t values_len, uriparse_buffer out, size_t room, size_t *needed);
 
-URIPARSE_INLINE uint32_t URIPARSE_CALL(append_pair)(uriparse_bytes query, size_t len, uriparse_bytes name, size_t name_len,
-                                                    uriparse_bytes value, size_t value_len, bool has_value,
-                                                    uriparse_buffer out, size_t room, size_t *needed) {
-  return URIPARSE_PROVED(append_pair)(uriparse_text(query, len), len, uriparse_text(name, name_len), name_len,
-                                      uriparse_text(value, value_len), value_len, has_value, uriparse_room(out, room), room,
-                                      needed);
-}
+/* Writes to `*pair` where the pair is that begins at `at` in a query, and where the next one begins. Returns whether there
+ * is one: if `at` is greater than `len` there is none, and `*pair` is unchanged. To read all pairs:
+ *
+ *     struct uriparse_pair pair;
+ *     for (size_t at = 0; uriparse_next_pair(query, len, at, &pair); at = pair.next) { .. }
+ *
+ * The pairs are the pieces between the '&', and the first '=' of a piece ends its name. Each query has a pair at least: that
+ * of an empty piece has an empty name and no value. Names and values are as they stand in the text: `uriparse_decode` reads
+ * each, and leaves a "+" as it is; `uriparse_form_decode` reads those of an HTML form. Any text is cut like that. RFC 3986 knows
+ * of such pairs only as a habit (section 3.4). Reads this pair alone. */
+bool uriparse_next_pair(uriparse_bytes query, size_t len, size_t at, struct uriparse_pair *pair);
 
-URIPARSE_INLINE uint32_t URIPARSE_CALL(drop_pairs)(uriparse_bytes query, size_t len, uriparse_bytes names, size_t names_len,
-                                                   uriparse_buffer out, size_t room, size_t *needed) {
-  return URIPARSE_PROVED(drop_pairs)(uriparse_text(query, len), len, uriparse_text(names, names_len), names_len,
-                                     uriparse_room(out, room), room, needed);
-}
+/* Writes to `*pair` where the first pair is whose name stands for the bytes of `name`, as `uriparse_next_pair` does, and
+ * returns whether there is one. If there is none, `*pair` is unchanged. The names are compared by the bytes that they stand
+ * for: "%61" is 'a', and a "+" is no space. `name` itself is plain bytes, in which "%61" is three. To find the next pair of
+ * the name, call `uriparse_find_next_pair` with `pair.next`. */
+bool uriparse_find_pair(uriparse_bytes query, size_t len, uriparse_bytes name, size_t name_len,
+                        struct uriparse_pair *pair);
 
-URIPARSE_INLINE uint32_t URIPARSE_CALL(decode)(uriparse_bytes text, size_t len, uriparse_buffer out, size_t room,
-                                               size_t *needed) {
-  return URIPARSE_PROVED(decode)(uriparse_text(text, len), len, uriparse_room(out, room), room, needed);
-}
+/* The same, from the place `at` of the query on: the first pair of the name that begins there or later. If `at` is greater than
+ * `len` there is none. To read all pairs of a name:
+ *
+ *     struct uriparse_pair pair;
+ *     for (size_t at = 0; uriparse_find_next_pair(query, len, at, name, name_len, &pair); at = pair.next) { .. } */
+bool uriparse_find_next_pair(uriparse_bytes query, size_t len, size_t at, uriparse_bytes name, size_t name_len,
+                             struct uriparse_pair *pair);
 
-URIPARSE_INLINE uint32_t URIPARSE_CALL(encode)(uint32_t component, uriparse_bytes bytes, size_t len, uriparse_buffer out,
-                                               size_t room, size_t *needed) {
-  return URIPARSE_PROVED(encode)(component, uriparse_text(bytes, len), len, uriparse_room(out, room), room, needed);
-}
+/* Writes to `out` the query with one pair of this name, as `uriparse_decode` writes: the pair stands in place of the first one
+ * whose name stands for the same bytes, and the others of that name are left out. If there is none, the pair follows all
+ * others, in place of an empty piece at the end: "" becomes "a=1", and "b&" becomes "b&a=1". Each byte of the name and the
+ * value is encoded as `uriparse_encode` does for URIPARSE_PAIR; all other pairs keep their bytes. Without `has_value` the pair
+ * is the name alone, without '=', and the bytes of `value` don't count. Returns URIPARSE_QUERY_BYTE or URIPARSE_QUERY_ESCAPE
+ * for a text that is no query. */
+uint32_t uriparse_set_pair(uriparse_bytes query, size_t len, uriparse_bytes name, size_t name_len, uriparse_bytes value,
+                           size_t value_len, bool has_value, uriparse_buffer out, size_t room, size_t *needed);
 
-URIPARSE_INLINE uint32_t URIPARSE_CALL(escape)(uriparse_bytes text, size_t len, uriparse_buffer out, size_t room,
-                                               size_t *needed) {
-  return URIPARSE_PROVED(escape)(uriparse_text(text, len), len, uriparse_room(out, room), room, needed);
-}
+/* The same, but all pairs of the query stay, and the new one follows them, in place of an empty piece at the end. */
+uint32_t uriparse_append_pair(uriparse_bytes query, size_t len, uriparse_bytes name, size_t name_len,
+                              uriparse_bytes value, size_t value_len, bool has_value, uriparse_buffer out, size_t room,
+                              size_t *needed);
+
+/* Writes to `out` the query without the pairs of some names, as `uriparse_decode` writes. `names` is written like a query, and
+ * its names are meant: "gclid&utm_*". A name that ends in '*' stands for each name that begins with what precedes the '*'
+ * ("%2A" is a '*' of the name itself). The names are compared by the bytes that they stand for: "utm_*" leaves out
+ * "%75tm_id=1". The other pairs stay in order, byte for byte. If no pair is left, returns URIPARSE_NO_PAIRS, with `*needed` 0
+ * and `out` unchanged: remove the query then (an empty query is one pair with an empty name). Returns URIPARSE_QUERY_BYTE or
+ * URIPARSE_QUERY_ESCAPE for a text that is no query, and then URIPARSE_BAD_NAMES if `names` is none. Takes time in proportion to
+ * the number of the query's pairs times the length of the names. */
+uint32_t uriparse_drop_pairs(uriparse_bytes query, size_t len, uriparse_bytes names, size_t names_len,
+                             uriparse_buffer out, size_t room, size_t *needed);
+
+/* Writes to `out` the bytes that the text of a component stands for, and to `*needed` their number: each escape as its
+ * byte, each other byte as it is, so a "+" stays. If `room` is less, returns URIPARSE_NO_ROOM, and `out` is
+ * unchanged. The text is that of a query, as the texts of user names, passwords, names of hosts, paths and fragments are
+ * too; for another text returns URIPARSE_QUERY_BYTE or URIPARSE_QUERY_ESCAPE.
+ *
+ * Cut a query or a path at its delimiters before you decode its pieces, a query by `uriparse_next_pair`: "%26" and "&"
+ * become the same byte. */
+uint32_t uriparse_decode(uriparse_bytes text, size_t len, uriparse_buffer out, size_t room, size_t *needed);
+
+/* The same of a name or a value of an HTML form, in which a "+" is a space. An escaped '+' ("%2B") is a '+'. */
+uint32_t uriparse_form_decode(uriparse_bytes text, size_t len, uriparse_buffer out, size_t room, size_t *needed);
+
+/* Writes to `out` any bytes as the text of a component, one of uriparse_component, as `uriparse_decode` writes: a byte
+ * that the component may have stays, and each other becomes an escape with upper-case digits, '%' too.
+ * `uriparse_decode` returns the bytes again. In a query '&', '=', '+' and '*' stay; as URIPARSE_PAIR they become escapes too,
+ * so a name or a value can be made of any bytes: "a&b=c d+" becomes "a%26b%3Dc%20d%2B", and "a*" becomes "a%2A", which
+ * `uriparse_drop_pairs` takes for that name alone. Returns URIPARSE_NO_COMPONENT for a host, a port or another number. */
+uint32_t uriparse_encode(uint32_t component, uriparse_bytes bytes, size_t len, uriparse_buffer out, size_t room,
+                         size_t *needed);
+
+/* Makes a reference of any text and writes it to `out` as `uriparse_decode` does. Each byte that RFC 3986 doesn't allow in its
+ * place is percent-encoded, except the delimiters of an authority; all else stays. So the text of a reference stays, and
+ * a second call changes nothing. Bytes that aren't ASCII are percent-encoded, also in the name of a host, as RFC 3987,
+ * section 3.1, does with IRIs in UTF-8. A '%' without two hexadecimal digits becomes "%25". The result may still be
+ * rejected: for its authority, which keeps its delimiters, for too many segments, or by the colon rule. */
+uint32_t uriparse_escape(uriparse_bytes text, size_t len, uriparse_buffer out, size_t room, size_t *needed);
+
+/* Writes to `out` the reference in a text that was cut out of a page or a letter (RFC 3986, appendix C), as `uriparse_decode` writes:
+ * the text without the white space at its ends and, if what is left begins with '<' and ends with '>', without these two, the
+ * white space at the ends of what they hold, and a prefix "URL:" in any case with the white space after it. White space is a
+ * space, a tab, a line feed, a form feed or a carriage return. Accepts any text; what is left may be no reference. */
+uint32_t uriparse_trim_link(uriparse_bytes text, size_t len, uriparse_buffer out, size_t room, size_t *needed);
 
 /* What a code means, in English. */
-URIPARSE_INLINE const char *uriparse_error_text(uint32_t code) {
-  switch (code & ~(0u | URIPARSE_IN_BASE)) {
-  case URIPARSE_OK: return "no error";
-  case URIPARSE_OUT_OF_MEMORY: return "out of memory";
-  case URIPARSE_NO_ROOM: return "the buffer is too small";
-  case URIPARSE_NO_SCHEME: return "the scheme is missing";
-  case URIPARSE_COLON_IN_SEGMENT: return "a colon in the first segment of a reference without a scheme";
-  case URIPARSE_TOO_MANY_SEGMENTS: return "the path has too many segments";
-  case URIPARSE_NO_COMPONENT: return "no component has this number";
-  case URIPARSE_NO_ORIGIN: return "the reference has no origin";
-  case URIPARSE_MISSING_HOST: return "a user name, password or port without a host";
-  case URIPARSE_BAD_CHANGE: return "a change without a meaning";
-  case URIPARSE_BAD_NAMES: return "the names of pairs are no query";
-  case URIPARSE_NO_PAIRS: return "no pair of the query is left";
-  case URIPARSE_TWO_SLASHES: return "without an authority the path would start with two slashes";
-  case URIPARSE_USERNAME_COLON: return "a colon in the user name";
-  case URIPARSE_USERNAME_BYTE: return "invalid byte in the user name";
-  case URIPARSE_USERNAME_ESCAPE: return "invalid percent-encoding in the user name";
-  case URIPARSE_PASSWORD_BYTE: return "invalid byte in the password";
-  case URIPARSE_PASSWORD_ESCAPE: return "invalid percent-encoding in the password";
-  case URIPARSE_HOST_BYTE: return "invalid byte or percent-encoding in the host";
-  case URIPARSE_HOST_IPV6_BYTE: return "invalid byte in the IPv6 address";
-  case URIPARSE_HOST_IPV6_FORM: return "invalid form of the IPv6 address";
-  case URIPARSE_HOST_FUTURE_BYTE: return "invalid byte in the IPvFuture address";
-  case URIPARSE_HOST_FUTURE_FORM: return "invalid form of the IPvFuture address";
-  case URIPARSE_PORT_BYTE: return "invalid byte in the port";
-  case URIPARSE_PORT_RANGE: return "the port is above 65535";
-  case URIPARSE_PATH_BYTE: return "invalid byte in the path";
-  case URIPARSE_PATH_ESCAPE: return "invalid percent-encoding in the path";
-  case URIPARSE_QUERY_BYTE: return "invalid byte in the query";
-  case URIPARSE_QUERY_ESCAPE: return "invalid percent-encoding in the query";
-  case URIPARSE_FRAGMENT_BYTE: return "invalid byte in the fragment";
-  case URIPARSE_FRAGMENT_ESCAPE: return "invalid percent-encoding in the fragment";
-  case URIPARSE_SCHEME_EMPTY: return "the scheme is empty";
-  case URIPARSE_SCHEME_BYTE: return "invalid byte in the scheme";
-  case URIPARSE_SCHEME_LETTER: return "the scheme does not start with a letter";
-  default: return "unknown code";
-  }
-}
+const char *uriparse_error_text(uint32_t code);
 
 /* The component that a code is about, one of uriparse_component, or 0 if it is about none. It is that of
  * URIPARSE_COMPONENT_MASK, and of the codes below 0x10 the scheme that is missing, the path, the host or the query. */
-URIPARSE_INLINE uint32_t uriparse_error_component(uint32_t code) {
-  switch (code & ~(0u | URIPARSE_IN_BASE)) {
-  case URIPARSE_NO_SCHEME: return URIPARSE_SCHEME;
-  case URIPARSE_MISSING_HOST: return URIPARSE_HOST;
-  case URIPARSE_COLON_IN_SEGMENT:
-  case URIPARSE_TOO_MANY_SEGMENTS:
-  case URIPARSE_TWO_SLASHES: return URIPARSE_SEGMENT;
-  case URIPARSE_BAD_NAMES:
-  case URIPARSE_NO_PAIRS: return URIPARSE_QUERY;
-  default: return code & URIPARSE_COMPONENT_MASK;
-  }
-}
+uint32_t uriparse_error_component(uint32_t code);
 
-/* The version of the header. */
-URIPARSE_INLINE const char *uriparse_version(void) { return URIPARSE_VERSION; }
+/* The version of the library that is linked. URIPARSE_VERSION is that of the header. */
+const char *uriparse_version(void);
 
 #ifdef __cplusplus
-} // extern "C++"
-#else
-#define uriparse_parse(...) uriparse_parse_(__VA_ARGS__)
-#define uriparse_first_fault(...) uriparse_first_fault_(__VA_ARGS__)
-#define uriparse_is_uri(...) uriparse_is_uri_(__VA_ARGS__)
-#define uriparse_equal(...) uriparse_equal_(__VA_ARGS__)
-#define uriparse_compare(...) uriparse_compare_(__VA_ARGS__)
-#define uriparse_is_within(...) uriparse_is_within_(__VA_ARGS__)
-#define uriparse_host_is_within(...) uriparse_host_is_within_(__VA_ARGS__)
-#define uriparse_host_flags(...) uriparse_host_flags_(__VA_ARGS__)
-#define uriparse_default_port(...) uriparse_default_port_(__VA_ARGS__)
-#define uriparse_hash(...) uriparse_hash_(__VA_ARGS__)
-#define uriparse_normalize(...) uriparse_normalize_(__VA_ARGS__)
-#define uriparse_resolve(...) uriparse_resolve_(__VA_ARGS__)
-#define uriparse_relativize(...) uriparse_relativize_(__VA_ARGS__)
-#define uriparse_origin(...) uriparse_origin_(__VA_ARGS__)
-#define uriparse_change(...) uriparse_change_(__VA_ARGS__)
-#define uriparse_next_pair(...) uriparse_next_pair_(__VA_ARGS__)
-#define uriparse_find_pair(...) uriparse_find_pair_(__VA_ARGS__)
-#define uriparse_set_pair(...) uriparse_set_pair_(__VA_ARGS__)
-#define uriparse_append_pair(...) uriparse_append_pair_(__VA_ARGS__)
-#define uriparse_drop_pairs(...) uriparse_drop_pairs_(__VA_ARGS__)
-#define uriparse_decode(...) uriparse_decode_(__VA_ARGS__)
-#define uriparse_encode(...) uriparse_encode_(__VA_ARGS__)
-#define uriparse_escape(...) uriparse_escape_(__VA_ARGS__)
+} // extern "C"
 #endif
-#undef URIPARSE_INLINE
-#undef URIPARSE_CAST
-#undef URIPARSE_CALL
-#undef URIPARSE_PROVED
 
 #endif

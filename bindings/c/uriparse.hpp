@@ -19,6 +19,7 @@
 #include <tuple>
 #include <type_traits>
 #include <utility>
+#include <vector>
 
 namespace uriparse {
 using view = std::optional<std::string_view>;
@@ -177,9 +178,12 @@ public:
 inline bool is_uri(input text) noexcept { return uriparse_is_uri(text.data(), text.size()); }
 inline bool equal(input left, input right) { return detail::read<bool>(uriparse_equal, left, right); }
 inline int compare(input left, input right) { return detail::read<std::int32_t>(uriparse_compare, left, right); }
+inline bool same_origin(input left, input right) { return detail::read<bool>(uriparse_same_origin, left, right); }
+inline bool is_normalized(input text) { return detail::read<bool>(uriparse_is_normalized, text); }
 inline std::uint64_t hash(input text) { return detail::read<std::uint64_t>(uriparse_hash, text); }
 inline std::string normalize(input text) { return detail::write(uriparse_normalize, text); }
 inline std::string escape(input text) { return detail::write(uriparse_escape, text); }
+inline std::string trim_link(input text) { return detail::write(uriparse_trim_link, text); }
 inline std::string resolve(input base, input text) { return detail::write(uriparse_resolve, base, text); }
 inline std::string relativize(input base, input uri) { return detail::write(uriparse_relativize, base, uri); }
 
@@ -201,6 +205,23 @@ inline bool host_is_within(input text, input domain) {
 
 // A sum of uriparse_host_flag.
 inline std::uint32_t host_flags(input text) { return detail::read<std::uint32_t>(uriparse_host_flags, text); }
+
+// Whether readers disagree on what a segment of a path names. Its error is that of a path, also for a '/'.
+inline bool is_ambiguous(input segment) {
+  bool ambiguous = false;
+  if (const auto code = uriparse_is_ambiguous(segment.data(), segment.size(), &ambiguous)) {
+    std::string marked(segment);
+    for (char &byte : marked) byte = byte == '/' ? '^' : byte;
+    throw error(code, detail::place_in(URIPARSE_SEGMENT, marked), 0);
+  }
+  return ambiguous;
+}
+
+// The port of the reference, or the default port of its scheme. Without an authority it has none.
+inline std::optional<std::uint32_t> port_or_default(input text) {
+  const auto port = detail::read<std::int32_t>(uriparse_port_or_default, text);
+  return port < 0 ? std::nullopt : std::optional(static_cast<std::uint32_t>(port));
+}
 
 inline std::optional<std::uint32_t> default_port(input scheme) noexcept {
   const auto port = uriparse_default_port(scheme.data(), scheme.size());
@@ -271,12 +292,20 @@ inline std::string replace(input text, const changes &wanted) {
   return out;
 }
 
-inline std::optional<std::string> origin(input text) {
+namespace detail {
+// What a call writes of a reference; with the code `none` there is nothing.
+template <class Call> std::optional<std::string> write_part(Call call, std::string_view text, std::uint32_t none) {
   std::string out;
-  const auto code = detail::fill(out, uriparse_origin, text);
-  if (code != URIPARSE_NO_ORIGIN) detail::check(code, text);
+  const auto code = fill(out, call, text);
+  if (code != none) check(code, text);
   return code == URIPARSE_OK ? std::optional(out) : std::nullopt;
 }
+} // namespace detail
+
+inline std::optional<std::string> origin(input text) { return detail::write_part(uriparse_origin, text, URIPARSE_NO_ORIGIN); }
+
+// The 4 bytes of the host if it is an IPv4 address, the 16 bytes if it is an IPv6 address.
+inline std::optional<std::string> host_address(input text) { return detail::write_part(uriparse_host_address, text, URIPARSE_NO_ADDRESS); }
 
 inline std::string encode(uriparse_component component, input bytes) {
   std::string out;
@@ -285,11 +314,18 @@ inline std::string encode(uriparse_component component, input bytes) {
   return out;
 }
 
-inline std::string decode(input text) {
+namespace detail {
+template <class Call> std::string decode(Call call, std::string_view text) {
   std::string out;
-  if (const auto code = detail::fill(out, uriparse_decode, text)) throw error(code, detail::place_in(URIPARSE_QUERY, text), 0);
+  if (const auto code = fill(out, call, text)) throw error(code, place_in(URIPARSE_QUERY, text), 0);
   return out;
 }
+} // namespace detail
+
+inline std::string decode(input text) { return detail::decode(uriparse_decode, text); }
+
+// The same of a name or a value of an HTML form, in which a '+' is a space.
+inline std::string form_decode(input text) { return detail::decode(uriparse_form_decode, text); }
 
 // The decoded value of the first pair of the query with this name: empty without a '='.
 inline std::optional<std::string> pair(input uri, input name) {
@@ -297,6 +333,17 @@ inline std::optional<std::string> pair(input uri, input name) {
   uriparse_pair found;
   if (!query || !uriparse_find_pair(query->data(), query->size(), name.data(), name.size(), &found)) return std::nullopt;
   return decode(detail::cut(*query, found.value).value_or(""));
+}
+
+// The decoded values of all pairs of the query with this name, each empty without a '='.
+inline std::vector<std::string> pair_values(input uri, input name) {
+  std::vector<std::string> values;
+  const auto query = reference(uri).query();
+  const auto text = query.value_or("");
+  uriparse_pair found{};
+  while (query && uriparse_find_next_pair(text.data(), text.size(), found.next, name.data(), name.size(), &found))
+    values.push_back(decode(detail::cut(text, found.value).value_or("")));
+  return values;
 }
 
 namespace detail {

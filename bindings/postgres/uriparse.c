@@ -20,6 +20,18 @@
 
 PG_MODULE_MAGIC;
 
+/* When the module is loaded: its library is that of its header. */
+void		_PG_init(void);
+
+void
+_PG_init(void)
+{
+	if (strcmp(uriparse_version(), URIPARSE_VERSION) != 0)
+		ereport(ERROR,
+				(errcode(ERRCODE_CONFIG_FILE_ERROR),
+				 errmsg("module \"uriparse\" is of version %s, and its library of %s", URIPARSE_VERSION, uriparse_version())));
+}
+
 /* Texts and results up to this length are held on the stack. */
 enum { SHORT = 1024 };
 
@@ -109,84 +121,6 @@ uri_fault(PG_FUNCTION_ARGS)
 	PG_RETURN_INT32(place);
 }
 
-PG_FUNCTION_INFO_V1(uri_equal);
-Datum
-uri_equal(PG_FUNCTION_ARGS)
-{
-	struct bytes left = argument(fcinfo, 0),
-				right = argument(fcinfo, 1);
-	bool		is_equal;
-
-	if (uriparse_equal(left.at, left.len, right.at, right.len, &is_equal) != URIPARSE_OK)
-		PG_RETURN_NULL();
-	PG_RETURN_BOOL(is_equal);
-}
-
-PG_FUNCTION_INFO_V1(uri_compare);
-Datum
-uri_compare(PG_FUNCTION_ARGS)
-{
-	struct bytes left = argument(fcinfo, 0),
-				right = argument(fcinfo, 1);
-	int32_t		order;
-
-	if (uriparse_compare(left.at, left.len, right.at, right.len, &order) != URIPARSE_OK)
-		PG_RETURN_NULL();
-	PG_RETURN_INT32(order);
-}
-
-PG_FUNCTION_INFO_V1(uri_is_within);
-Datum
-uri_is_within(PG_FUNCTION_ARGS)
-{
-	struct bytes text = argument(fcinfo, 0),
-				base = argument(fcinfo, 1);
-	bool		within;
-
-	if (uriparse_is_within(text.at, text.len, base.at, base.len, &within) != URIPARSE_OK)
-		PG_RETURN_NULL();
-	PG_RETURN_BOOL(within);
-}
-
-PG_FUNCTION_INFO_V1(uri_host_is_within);
-Datum
-uri_host_is_within(PG_FUNCTION_ARGS)
-{
-	struct bytes text = argument(fcinfo, 0),
-				domain = argument(fcinfo, 1);
-	bool		within;
-
-	if (uriparse_host_is_within(text.at, text.len, domain.at, domain.len, &within) != URIPARSE_OK)
-		PG_RETURN_NULL();
-	PG_RETURN_BOOL(within);
-}
-
-/* The sum of enum uriparse_host_flag. */
-PG_FUNCTION_INFO_V1(uri_host_flags);
-Datum
-uri_host_flags(PG_FUNCTION_ARGS)
-{
-	struct bytes text = argument(fcinfo, 0);
-	uint32_t	flags;
-
-	if (uriparse_host_flags(text.at, text.len, &flags) != URIPARSE_OK)
-		PG_RETURN_NULL();
-	PG_RETURN_INT32((int32) flags);
-}
-
-/* The default port of a scheme; NULL if it has none. */
-PG_FUNCTION_INFO_V1(uri_default_port);
-Datum
-uri_default_port(PG_FUNCTION_ARGS)
-{
-	struct bytes scheme = argument(fcinfo, 0);
-	uint32_t	number = uriparse_default_port(scheme.at, scheme.len);
-
-	if (!number)
-		PG_RETURN_NULL();
-	PG_RETURN_INT32((int32) number);
-}
-
 PG_FUNCTION_INFO_V1(uri_hash);
 Datum
 uri_hash(PG_FUNCTION_ARGS)
@@ -230,6 +164,12 @@ static uint32_t
 write_origin(const struct bytes *texts, char *out, size_t room, size_t *needed)
 {
 	return uriparse_origin(texts[0].at, texts[0].len, out, room, needed);
+}
+
+static uint32_t
+write_trimmed(const struct bytes *texts, char *out, size_t room, size_t *needed)
+{
+	return uriparse_trim_link(texts[0].at, texts[0].len, out, room, needed);
 }
 
 /* What the call writes; NULL if it rejects a text. */
@@ -322,6 +262,13 @@ Datum
 uri_origin(PG_FUNCTION_ARGS)
 {
 	return written(fcinfo, write_origin);
+}
+
+PG_FUNCTION_INFO_V1(uri_trim_link);
+Datum
+uri_trim_link(PG_FUNCTION_ARGS)
+{
+	return written(fcinfo, write_trimmed);
 }
 
 /* The place of a name in a list that ends with NULL. A name that isn't there is an error. */
@@ -472,15 +419,25 @@ from_utf8(const char *at, size_t len)
 	return cstring_to_text((char *) out);
 }
 
-/* What the text of a component stands for. NULL if it is none, or if that is no text of this database. */
+/* A call that decodes a text. */
+typedef uint32_t decoder(const void *text, size_t len, void *out, size_t room, size_t *needed);
+
+/* What the call makes of a text. NULL if it rejects it, or if that is no text of this database. */
 static text *
-decoded(const char *at, size_t len)
+decoded_by(decoder *call, const char *at, size_t len)
 {
 	char	   *out = palloc(len + 1);
 
-	if (uriparse_decode(at, len, out, len, &len) != URIPARSE_OK || memchr(out, 0, len))
+	if (call(at, len, out, len, &len) != URIPARSE_OK || memchr(out, 0, len))
 		return NULL;
 	return from_utf8(out, len);
+}
+
+/* What the text of a component stands for. */
+static text *
+decoded(const char *at, size_t len)
+{
+	return decoded_by(uriparse_decode, at, len);
 }
 
 PG_FUNCTION_INFO_V1(uri_decode);
@@ -489,6 +446,18 @@ uri_decode(PG_FUNCTION_ARGS)
 {
 	struct bytes component = argument(fcinfo, 0);
 	text	   *result = decoded(component.at, component.len);
+
+	if (!result)
+		PG_RETURN_NULL();
+	PG_RETURN_TEXT_P(result);
+}
+
+PG_FUNCTION_INFO_V1(uri_form_decode);
+Datum
+uri_form_decode(PG_FUNCTION_ARGS)
+{
+	struct bytes value = argument(fcinfo, 0);
+	text	   *result = decoded_by(uriparse_form_decode, value.at, value.len);
 
 	if (!result)
 		PG_RETURN_NULL();
@@ -595,6 +564,28 @@ uri_param(PG_FUNCTION_ARGS)
 	if (!result)
 		PG_RETURN_NULL();
 	PG_RETURN_TEXT_P(result);
+}
+
+/* The values of all pairs of a name, each as uri_param has it. */
+PG_FUNCTION_INFO_V1(uri_param_values);
+Datum
+uri_param_values(PG_FUNCTION_ARGS)
+{
+	struct bytes name = in_utf8(argument(fcinfo, 1)),
+				query;
+	struct uriparse_pair pair;
+	bool		present;
+	ArrayBuildState *values = initArrayResult(TEXTOID, CurrentMemoryContext, false);
+
+	if (!query_of(argument(fcinfo, 0), &query, &present))
+		PG_RETURN_NULL();
+	for (size_t at = 0; present && uriparse_find_next_pair(query.at, query.len, at, name.at, name.len, &pair); at = pair.next)
+	{
+		text	   *value = decoded(query.at + pair.value.begin, pair.value.end - pair.value.begin);
+
+		accumArrayResult(values, PointerGetDatum(value), !value, TEXTOID, CurrentMemoryContext);
+	}
+	PG_RETURN_DATUM(makeArrayResult(values, CurrentMemoryContext));
 }
 
 /* The reference with this query, or without one. */

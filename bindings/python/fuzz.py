@@ -65,7 +65,8 @@ def check_accepted(text, found):
         assert (b"" if user is None else user + password + b"@") + found["host"] + port == found["authority"], text
     assert uriparse.is_uri(text) == ("scheme" in found), text
     normal = uriparse.normalize(text)
-    assert uriparse.normalize(normal) == normal, text
+    assert uriparse.normalize(normal) == normal and uriparse.is_normalized(normal), text
+    assert uriparse.is_normalized(text) == (normal == text), text
     assert uriparse.first_fault(text) is None, text
 
 
@@ -86,6 +87,11 @@ KEPT = {"username": "!$&'()*+,;=", "password": "!$&'()*+,;=:", "segment": "!$&'(
 def check_pairs(text):
     pieces = (piece.partition(b"=") for piece in text.split(b"&"))
     assert uriparse.pairs(text) == [(name, value if sign else None) for name, sign, value in pieces], text
+    if b"#" not in text and not code_of(uriparse.spans, b"?" + text):
+        decoded = [(unquote_to_bytes(name), unquote_to_bytes(value or b"")) for name, value in uriparse.pairs(text)]
+        for wanted, _ in decoded:
+            assert uriparse.pair_values(b"?" + text, wanted) == [value for name, value in decoded if name == wanted], text
+        assert uriparse.form_decode(text) == unquote_to_bytes(text.replace(b"+", b" ")), text
 
 
 def check_codings(text):

@@ -1,6 +1,6 @@
 """Builds Python's package for `pip install ./bindings/python`, with -e too: a wheel of the folder src/uriparse and of the extension module,
-which `make` builds and which has the library in it. One wheel is for all versions of CPython from 3.11 on. An sdist has the built library,
-since its source needs the kit, and the source of the module. The setting `target`, as in
+which `make` builds and which has the library in it. One wheel is for all versions of CPython from 3.11 on. An sdist has the built library
+for each machine for which it is proved, since its source needs the kit, and the source of the module. The setting `target`, as in
 `pip wheel -C target=aarch64-linux-gnu ./bindings/python`, builds for another machine.
 
 It is the backend that pyproject.toml names (PEP 517, PEP 660), and needs nothing but Python with its headers and what `make` needs.
@@ -10,6 +10,7 @@ import gzip
 import hashlib
 import io
 import os
+import platform
 import re
 import subprocess
 import sys
@@ -53,8 +54,12 @@ def check_python():
         raise SystemExit("uriparse doesn't support a free-threaded CPython.")
 
 
+def has_archive(target):
+    return os.path.exists(os.path.join(HERE, "..", "..", "crates", "uriparse_c", "out", target, "liburiparse_c.a"))
+
+
 def check_archive(target):
-    if not os.path.exists(os.path.join(HERE, "..", "..", "crates", "uriparse_c", "out", target, "liburiparse_c.a")):
+    if not has_archive(target):
         also = ", then `tools/gate/archive %s`," % target if target else ""
         raise SystemExit("The library isn't built. Run `(cd crates/uriparse_c && rt lib)`%s first." % also)
 
@@ -63,7 +68,7 @@ def make(out, target=""):
     """Builds the module and the package in a folder, for this machine if no target is named."""
     check_python()
     if in_sdist():
-        run_make("OUT=" + out, "LIBRARY=" + HERE)
+        run_make("OUT=" + out, "LIBRARY=" + os.path.join(HERE, "lib", platform.machine() + "-linux-gnu"))
         return
     check_archive(target)
     run_make("OUT=" + out, "TARGET=" + target)
@@ -151,21 +156,28 @@ def build_editable(wheel_directory, config_settings=None, metadata_directory=Non
     return write_wheel(wheel_directory, {NAME + ".pth": (os.path.join(HERE, "src") + "\n").encode()}, tag(module))
 
 
-def built_library(config_settings):
-    """The library, and the header."""
+# In an sdist, the library for a machine, and the target that `make` calls it by.
+LIBRARIES = (("lib/x86_64-linux-gnu/liburiparse.a", ""), ("lib/aarch64-linux-gnu/liburiparse.a", "aarch64-linux-gnu"))
+
+
+def built_libraries():
+    """The header, and the library for each machine for which it is proved."""
     if in_sdist():
-        return {"liburiparse.a": read("liburiparse.a"), "uriparse.h": read("uriparse.h")}
-    target = target_of(config_settings)
-    check_archive(target)
-    with tempfile.TemporaryDirectory() as out:
-        run_make("OUT=" + out, "TARGET=" + target, os.path.join(out, "c", "liburiparse.a"))
-        return {"liburiparse.a": read(out, "c", "liburiparse.a"), "uriparse.h": read("..", "c", "uriparse.h")}
+        return {name: read(name) for name in ("uriparse.h", *(name for name, _ in LIBRARIES)) if os.path.exists(os.path.join(HERE, name))}
+    check_archive("")
+    files = {"uriparse.h": read("..", "c", "uriparse.h")}
+    for name, target in LIBRARIES:
+        if has_archive(target):
+            with tempfile.TemporaryDirectory() as out:
+                run_make("OUT=" + out, "TARGET=" + target, os.path.join(out, "c", "liburiparse.a"))
+                files[name] = read(out, "c", "liburiparse.a")
+    return files
 
 
 def build_sdist(sdist_directory, config_settings=None):
     files = {name: read(name) for name in ("pyproject.toml", "package.py", "Makefile", "README.md", "test.py", *SOURCES)}
     files.update({"src/" + name: read("src", name) for name in MODULES})
-    files.update({"LICENSE": license_text(), "PKG-INFO": metadata(), **built_library(config_settings)})
+    files.update({"LICENSE": license_text(), "PKG-INFO": metadata(), **built_libraries()})
     base = "%s-%s" % (NAME, version())
     with open(os.path.join(sdist_directory, base + ".tar.gz"), "wb") as whole:
         with gzip.GzipFile("", "wb", fileobj=whole, mtime=made_time()) as packed:

@@ -7,6 +7,7 @@ import copy
 import dataclasses
 import http
 import inspect
+import ipaddress
 import os
 import pickle
 import re
@@ -94,11 +95,11 @@ def test_components() -> None:
 
 def test_messages() -> None:
     """What is wrong and where, without the text, which may have a password."""
-    assert str(raised(uriparse.parse, b"http://h/a b")) == "first wrong byte 10: invalid byte in the path"
-    assert str(raised(uriparse.resolve, b"/a", b"")) == "base: the scheme is missing"
-    assert str(raised(uriparse.resolve, b"s:%", b"")) == "base: first wrong byte 2: invalid percent-encoding in the path"
-    assert str(raised(uriparse.resolve, b"s://h/a/" + b"/" * 600_000, b"a" + b"/" * 600_000)) == "the path has too many segments"
-    assert str(raised(uriparse.host_is_within, "//h", "h:80")) == "domain: first wrong byte 1: invalid byte or percent-encoding in the host"
+    assert str(raised(uriparse.parse, b"http://h/a b")) == "first wrong byte 10: invalid path character"
+    assert str(raised(uriparse.resolve, b"/a", b"")) == "base: not URI"
+    assert str(raised(uriparse.resolve, b"s:%", b"")) == "base: first wrong byte 2: invalid path percent encoding"
+    assert str(raised(uriparse.resolve, b"s://h/a/" + b"/" * 600_000, b"a" + b"/" * 600_000)) == "exceeded maximum path length"
+    assert str(raised(uriparse.host_is_within, "//h", "h:80")) == "domain: first wrong byte 1: invalid host IPv4 or registered name character"
     for text in ("https://user:s3cret@h/a b", "https://user:s3cret %@h/"):
         error = raised(uriparse.URI, text)
         assert isinstance(error, uriparse.URIError) and error.text == text
@@ -197,7 +198,8 @@ def test_wrong_types() -> None:
             assert type(error) is TypeError and str(error) == "str or bytes expected, not None", (some, error)
     single: List[Callable[..., object]] = [
         uriparse.parse, uriparse.spans, uriparse.first_fault, uriparse.is_uri, uriparse.hash_of, uriparse.normalize,
-        uriparse.origin, uriparse.pairs, uriparse.decode, uriparse.escape, lambda data: uriparse.encode("query", data)]
+        uriparse.origin, uriparse.pairs, uriparse.decode, uriparse.form_decode, uriparse.escape, uriparse.trim_link, uriparse.is_normalized,
+        uriparse.is_ambiguous, uriparse.port_or_default, uriparse.host_address, lambda data: uriparse.encode("query", data)]
     for call in single:
         for other, name in ((None, "None"), (5, "int"), ([97], "list"), (memoryview(b"abcd").cast("I"), "memoryview")):
             if other is None and call is uriparse.pairs:
@@ -228,6 +230,12 @@ def test_str() -> None:
     assert uriparse.escape("http://h/a b?\u00fc%\U0001f600") == "http://h/a%20b?%C3%BC%25%F0%9F%98%80"
     assert uriparse.encode("segment", "a/b \u00fc") == "a%2Fb%20%C3%BC" and uriparse.decode("a%20%c3%bC+") == "a \u00fc+"
     assert type(raised(uriparse.decode, "%FF")) is UnicodeDecodeError and uriparse.decode(b"%FF") == b"\xff"
+    assert uriparse.form_decode("a+%2B%c3%bC") == "a +\u00fc" and uriparse.form_decode(b"+%ff") == b" \xff"
+    assert type(raised(uriparse.form_decode, "%FF")) is UnicodeDecodeError
+    assert uriparse.trim_link(" <URL:http://h/\u00fc>\n") == "http://h/\u00fc" and uriparse.trim_link(bytearray(b"\xff ")) == b"\xff"
+    assert uriparse.pair_values("?a=1&\u0061=%C3%BC&a&b", "a") == ["1", "\u00fc", ""] == uriparse.URI("?a=1&%61=%C3%BC&a&b").pair_values("a")
+    assert uriparse.pair_values(b"?5=%FF", 5) == [b"\xff"] and uriparse.pair_values("a", "a") == []
+    assert type(raised(uriparse.pair_values, "?a=1&a=%FF", "a")) is UnicodeDecodeError
     assert uriparse.pairs("a=1&\u00fc=&c") == [("a", "1"), ("\u00fc", ""), ("c", None)] and uriparse.pairs("") == [("", None)]
     assert uriparse.first_fault("/a%4") == (0x52, 2) and uriparse.first_fault("/a") is None and uriparse.first_fault("a\u00fc") == (0x51, 1)
     found = uriparse.parse("http://u@h:80/a?q#")
@@ -272,7 +280,7 @@ def test_surrogates() -> None:
     assert uriparse.get_many("path", ["\ud800", "a"]) == [None, "a"]
     error = raised(uriparse.equal, "a", "\ud800")
     assert isinstance(error, uriparse.URIError) and (error.argument, str(error)) == (
-        "right", "first wrong byte 0: invalid byte in the path"), error
+        "right", "first wrong byte 0: invalid path character"), error
 
 
 def test_reasons() -> None:
@@ -339,7 +347,7 @@ def test_replace() -> None:
         error = raised(lambda: uriparse.replace(text, **values))
         assert isinstance(error, uriparse.URIError), (text, error)
         assert (error.argument, error.component, error.reason, error.place) == (argument, component, code, place), (text, error)
-    assert str(raised(lambda: uriparse.replace("a", port=1))) == "a user name, password or port without a host"
+    assert str(raised(lambda: uriparse.replace("a", port=1))) == "user name, password or port without a host"
     error = raised(lambda: uriparse.replace("s:", path="a/" * 1_000_000 + "a"))
     assert isinstance(error, uriparse.URIError) and (error.argument, error.component, len(error.text), error.place) == (
         "path", "path", 2_000_001, 1_999_999), error
@@ -409,7 +417,25 @@ def test_checks() -> None:
     assert uriparse.host_flags("//%31.2.3.4") == uriparse.HostFlag.HIDES_ADDRESS | uriparse.HostFlag.MAY_BE_NUMERIC
     assert uriparse.host_flags(b"//0x7f.1") is uriparse.HostFlag.MAY_BE_NUMERIC and not uriparse.host_flags("//example.com")
     assert uriparse.default_port("HTTPS") == 443 and uriparse.default_port(b"mailto") is None and uriparse.default_port("") is None
+    for text, port in (("https://h", 443), ("https://h:", 443), ("//h:0", 0), ("//h", None), ("https:a", None)):
+        assert uriparse.port_or_default(text) == port == uriparse.URI(text).port_or_default() == uriparse.port_or_default(text.encode())
+    for text, address in (("//1.2.3.4:8", "1.2.3.4"), ("//[2001:DB8::7]", "2001:db8::7"), ("//h", None), ("//127.1", None), ("1.2.3.4", None)):
+        expected = None if address is None else ipaddress.ip_address(address)
+        assert uriparse.host_address(text) == expected == uriparse.URI(text).host_address() == uriparse.host_address(text.encode())
+    for text, normal in (("http://h/", True), ("http://h", False), ("a/../b", False), ("", True)):
+        assert uriparse.is_normalized(text) is normal is uriparse.URI(text).is_normalized() is uriparse.is_normalized(text.encode())
+    for left, right, same in (("HTTPS://u@H:443/a", "https://h/b", True), ("http://h", "https://h", False), ("file:///a", "file:///a", False)):
+        assert uriparse.same_origin(left, right) is same is uriparse.URI(left).same_origin(right) is uriparse.same_origin(left.encode(), right.encode())
+    for segment, ambiguous in (("..;a", True), ("a%2fb", True), ("..", False), ("", False)):
+        assert uriparse.is_ambiguous(segment) is ambiguous is uriparse.is_ambiguous(segment.encode())
     faults: List[Any] = [
+        (uriparse.same_origin, ("a b", "%"), "left", 0x51, 1), (uriparse.same_origin, ("a", "%"), "right", 0x52, 0),
+        (uriparse.is_normalized, ("a b",), "text", 0x51, 1), (uriparse.port_or_default, ("//h:x",), "text", 0x41, 4),
+        (uriparse.host_address, ("//[::g]",), "text", 0x32, 5), (uriparse.is_ambiguous, ("/a",), "segment", 0x51, 0),
+        (uriparse.is_ambiguous, ("\u00e9",), "segment", 0x51, 0), (uriparse.is_ambiguous, ("a%2/",), "segment", 0x52, 1),
+        (uriparse.is_ambiguous, ("a\ud800",), "segment", 0x51, 1), (uriparse.trim_link, (" \ud800",), "text", 0x51, 1),
+        (uriparse.form_decode, ("\u00e9+%",), "text", 0x61, 0), (uriparse.form_decode, ("+%",), "text", 0x62, 1),
+        (uriparse.pair_values, ("a b", "a"), "text", 0x51, 1), (uriparse.pair_values, ("?a", "\ud800"), "name", 0x61, 0),
         (uriparse.compare, ("a", "a b"), "right", 0x51, 1), (uriparse.is_within, ("/a", "%"), "uri", 3, 0),
         (uriparse.is_within, ("s:", "%"), "base", 0x152, 0), (uriparse.is_within, ("a b", "%"), "uri", 0x51, 1),
         (uriparse.is_within, ("s:", "a"), "base", 0x103, 0),
@@ -454,7 +480,7 @@ def test_pairs_by_name() -> None:
     rejects_str(0x61, 0, "\ud800", "name", uriparse.pair, "s:", "\ud800")
     rejects_str(0x61, 1, "a\ud800", "value", uriparse.with_pair, "s:", "a", "a\ud800")
     rejects_str(0x61, 2, "a=\ud800", "query", uriparse.pairs, "a=\ud800")
-    assert str(raised(uriparse.pairs, "a=\ud800")) == "first wrong byte 2: invalid byte in the query"
+    assert str(raised(uriparse.pairs, "a=\ud800")) == "first wrong byte 2: invalid query character"
     assert uriparse.pairs(None) == [] and uriparse.URI("a").pairs() == [] and uriparse.URI("?").pairs() == [("", None)]
 
 
@@ -535,7 +561,8 @@ def test_uris_as_arguments() -> None:
         lambda one: uriparse.resolve_many(one, ["c", other])]
     for call in single:
         assert call(uri) == call(text) and type(call(uri)) is type(call(text)), call
-    double: List[Callable[..., object]] = [uriparse.resolve, uriparse.relativize, uriparse.equal, uriparse.compare, uriparse.is_within]
+    double: List[Callable[..., object]] = [uriparse.resolve, uriparse.relativize, uriparse.equal, uriparse.compare, uriparse.same_origin,
+                                         uriparse.is_within]
     for call in double:
         assert call(uri, uri) == call(text, text) == call(uri, text) == call(text, uri), call
     assert uriparse.host_is_within(uri, "example.com") and uri.host_is_within("example.com") and not uri.host_is_within("h")
@@ -544,7 +571,8 @@ def test_uris_as_arguments() -> None:
     assert uri.pairs() == [("x", "1"), ("y", None)] and uri.origin() == uriparse.URI("http://www.example.com") and other.origin() is None
     assert uri.spans() == uriparse.spans(text) and isinstance(uri.spans().host, uriparse.Span) and uri.spans().host.present
     others: List[Callable[..., object]] = [
-        uriparse.decode, uriparse.pairs, uriparse.default_port, lambda one: uriparse.encode("query", one),
+        uriparse.decode, uriparse.form_decode, uriparse.trim_link, uriparse.is_ambiguous, uriparse.pairs, uriparse.default_port,
+        lambda one: uriparse.encode("query", one),
         lambda one: uriparse.host_is_within("//h", one), lambda one: uriparse.replace("a", path=one)]
     for call in others:
         assert type(raised(call, uri)) is TypeError
@@ -588,20 +616,26 @@ def test_package() -> None:
 
 
 def test_header(path: str) -> None:
-    """The version, and the codes with their texts, are the header's."""
+    """The version and the codes are the header's."""
     with open(path) as file:
         header = file.read()
     assert re.findall('URIPARSE_VERSION "(.*)"', header) == [uriparse.__version__]
     flags = re.search(r"enum uriparse_host_flag \{(.*?)\};", header, re.DOTALL)
     assert flags and all(int(uriparse.HostFlag[name]) == int(bit) for name, bit in re.findall(r"URIPARSE_(\w+) = (\d)", flags[1]))
-    codes = {name: int(code, 0) for name, code in re.findall(r"^  (URIPARSE_\w+) = (\w+)", header, re.MULTILINE)}
-    assert {name[len("URIPARSE_"):]: codes[name] for name, _ in re.findall(r'case (\w+): return "(.*)";', header)} == {
-        code.name: code.value for code in uriparse.Code}
-    texts = re.findall(r'case (\w+): return "(.*)";', header)
-    assert len(texts) > 20
-    for name, text in texts:
-        assert uriparse.error_text(codes[name]) == uriparse.error_text(codes[name] | uriparse.IN_BASE) == text, name
-    assert {uriparse.error_text(code) for code in range(0x100)} == {text for _, text in texts} | {"unknown code"}
+    codes = {name: int(code, 0) for name, code in re.findall(r"^  URIPARSE_(\w+) = (\w+),", header[:header.index("URIPARSE_COMPONENT_MASK = ")],
+                                                             re.MULTILINE)}
+    assert codes == {code.name: code.value for code in uriparse.Code}
+
+
+def test_codes(path: str) -> None:
+    """The words of errors are those of bindings/codes.tsv."""
+    with open(path) as file:
+        rows = [line.split("\t") for line in file if line[0] != "#"]
+    texts = {int(row[0], 16): row[6] for row in rows if row[1] != "-"}
+    assert texts.keys() == {code.value for code in uriparse.Code}
+    for code, text in texts.items():
+        assert uriparse.error_text(code) == uriparse.error_text(code | uriparse.IN_BASE) == text, code
+    assert {uriparse.error_text(code) for code in range(0x100)} == {*texts.values(), "unknown code"}
 
 
 def test_hostile(path: str) -> None:
@@ -630,6 +664,7 @@ def main() -> None:
         test()
     for header in sys.argv[1:]:
         test_header(header)
+        test_codes(os.path.join(os.path.dirname(header), "../codes.tsv"))
         test_hostile(os.path.join(os.path.dirname(header), "../../tests/hostile.tsv"))
     print("ok")
 

@@ -17,6 +17,15 @@ def pairs(uri: Any) -> str:
     return "".join(found)
 
 
+def pair_values(uri: Any, name: Any) -> str:
+    return "".join("<%s>" % shown(value) for value in uriparse.pair_values(uri, name))
+
+
+def host_address(text: Any) -> Optional[bytes]:
+    found = uriparse.host_address(text)
+    return None if found is None else found.packed
+
+
 def replace(text: Any, component: Any, value: Any) -> Any:
     return uriparse.replace(text, **{component if isinstance(component, str) else component.decode(): value})
 
@@ -27,6 +36,10 @@ CALLS: Dict[str, Tuple[Callable[..., Any], Tuple[str, ...]]] = {
     "port": (lambda text: uriparse.parse(text).port, ("text",)), "port_number": (lambda text: uriparse.parse(text).port_number, ("text",)),
     "host_kind": (lambda text: uriparse.parse(text).host_kind, ("text",)), "host_flags": (lambda text: int(uriparse.host_flags(text)), ("text",)),
     "default_port": (uriparse.default_port, ("scheme",)), "origin": (uriparse.origin, ("text",)), "normalize": (uriparse.normalize, ("text",)),
+    "port_or_default": (uriparse.port_or_default, ("text",)), "host_address": (host_address, ("text",)), "hash": (uriparse.hash_of, ("text",)),
+    "is_normalized": (uriparse.is_normalized, ("text",)), "is_ambiguous": (uriparse.is_ambiguous, ("segment",)),
+    "same_origin": (uriparse.same_origin, ("left", "right")), "trim_link": (uriparse.trim_link, ("text",)),
+    "form_decode": (uriparse.form_decode, ("text",)), "pair_values": (pair_values, ("text", "name")),
     "escape": (uriparse.escape, ("text",)), "decode": (uriparse.decode, ("text",)),
     "encode": (lambda component, data: uriparse.encode(component if isinstance(component, str) else component.decode(), data), ("component", "data")),
     "pairs": (pairs, ("text",)), "pair": (uriparse.pair, ("text", "name")), "with_pair": (uriparse.with_pair, ("text", "name", "value")),
@@ -94,11 +107,11 @@ def main() -> None:
         arguments = [field(text) for text in texts]
         wanted = re.sub(r"^(!.*) -$", r"\1 0", expected)
         found = answer(call, arguments)
-        assert found == wanted, (call, texts, found, wanted)
+        assert field(found) == field(wanted), (call, texts, found, wanted)
         strings = as_str(arguments)
         if strings is not None and "\\x" not in wanted:
             found = answer(call, strings)
-            assert found == wanted, (call, strings, found, wanted)
+            assert field(found) == field(wanted), (call, strings, found, wanted)
         passed += 1
     print("%d rows; no call for %s" % (passed, ", ".join("%s (%d)" % row for row in left_out.items()) or "none"))
 

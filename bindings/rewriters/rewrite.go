@@ -12,21 +12,21 @@ import (
 	"unsafe"
 )
 
-// The pointer of a text, or of a buffer. That of an empty text isn't null.
-func pointer(bytes []byte) *C.uint8_t {
+// The pointer of a text, or of a buffer.
+func pointer(bytes []byte) unsafe.Pointer {
 	if len(bytes) == 0 {
-		bytes = make([]byte, 1)
+		return nil
 	}
-	return (*C.uint8_t)(unsafe.Pointer(&bytes[0]))
+	return unsafe.Pointer(&bytes[0])
 }
 
 func absolute(base, link []byte) []byte {
 	var size C.size_t
 	escaped := make([]byte, 3*len(link))
 	target := make([]byte, len(base)+len(escaped)+16)
-	C.uriparse_escape(pointer(link), C.size_t(len(link)), pointer(escaped), C.size_t(len(escaped)), &size)
-	if C.uriparse_resolve(pointer(base), C.size_t(len(base)), pointer(escaped), size,
-		pointer(target), C.size_t(len(target)), &size) != C.URIPARSE_OK {
+	C.uriparse_escape(C.uriparse_bytes(pointer(link)), C.size_t(len(link)), C.uriparse_buffer(pointer(escaped)), C.size_t(len(escaped)), &size)
+	if C.uriparse_resolve(C.uriparse_bytes(pointer(base)), C.size_t(len(base)), C.uriparse_bytes(pointer(escaped)), size,
+		C.uriparse_buffer(pointer(target)), C.size_t(len(target)), &size) != C.URIPARSE_OK {
 		return link
 	}
 	return target[:size]

@@ -1,7 +1,8 @@
-//! Links the library for C: that of the folder `URIPARSE_LIB_DIR`, which has `liburiparse.a`, or the one that `make` builds from
-//! what `rt lib` made in this source tree, or for aarch64 `tools/gate/archive`.
+//! Links the library for C: that of the folder `URIPARSE_LIB_DIR`, which has `liburiparse.a`, or the one that is packaged with the crate,
+//! or the one that `make` builds from what `rt lib` made in this source tree, or for aarch64 `tools/gate/archive`.
 
 use std::env;
+use std::fs;
 use std::path::{Path, PathBuf};
 use std::process::{exit, Command};
 
@@ -16,14 +17,20 @@ fn main() {
     }
     let folder = match env::var_os("URIPARSE_LIB_DIR") {
         Some(folder) => PathBuf::from(folder),
-        None => built(),
+        None => packaged(&arch).unwrap_or_else(built),
     };
-    println!(
-        "cargo:rerun-if-changed={}",
-        folder.join("liburiparse.a").display()
-    );
+    let archive = folder.join("liburiparse.a");
+    println!("cargo:rerun-if-changed={}", archive.display());
+    check_version(&archive);
     println!("cargo:rustc-link-search=native={}", folder.display());
     println!("cargo:rustc-link-lib=static=uriparse");
+}
+
+/// The folder of the library that a packaged crate has for the processor.
+fn packaged(arch: &str) -> Option<PathBuf> {
+    let crate_folder = PathBuf::from(env::var_os("CARGO_MANIFEST_DIR")?);
+    let folder = crate_folder.join("lib").join(format!("{arch}-linux-gnu"));
+    folder.is_dir().then_some(folder)
 }
 
 /// The folder of the library that `make` builds for the target.
@@ -33,8 +40,9 @@ fn built() -> PathBuf {
     let proved = Path::new("../../crates/uriparse_c/out")
         .join(target)
         .join("liburiparse_c.a");
-    for source in [&proved, Path::new("../c/Makefile"), Path::new("build.rs")] {
-        println!("cargo:rerun-if-changed={}", source.display());
+    println!("cargo:rerun-if-changed={}", proved.display());
+    for source in ["../calls.tsv", "../c/Makefile", "../c/calls.c", "build.rs"] {
+        println!("cargo:rerun-if-changed={source}");
     }
     println!("cargo:rerun-if-env-changed=KIT");
     let out = PathBuf::from(env::var_os("OUT_DIR").unwrap_or_default()).join("c");
@@ -54,6 +62,31 @@ fn built() -> PathBuf {
         ""
     };
     stop(&format!("the library for C isn't built: run `rt lib` in crates/uriparse_c, or set URIPARSE_LIB_DIR to the folder of liburiparse.a{hint}"))
+}
+
+/// Stops unless the archive has the symbol that names the crate's version, up to which calls are the same.
+fn check_version(archive: &Path) {
+    let symbol = concat!(
+        "uriparse_version_",
+        env!("CARGO_PKG_VERSION_MAJOR"),
+        "_",
+        env!("CARGO_PKG_VERSION_MINOR"),
+        "\0"
+    );
+    let bytes = match fs::read(archive) {
+        Ok(bytes) => bytes,
+        Err(error) => stop(&format!("{}: {error}", archive.display())),
+    };
+    if !bytes
+        .windows(symbol.len())
+        .any(|found| found == symbol.as_bytes())
+    {
+        stop(&format!(
+            "{} is not of version {}",
+            archive.display(),
+            env!("CARGO_PKG_VERSION")
+        ));
+    }
 }
 
 fn stop(why: &str) -> ! {

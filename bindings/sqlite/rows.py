@@ -138,15 +138,21 @@ def authority_parts(text: bytes) -> Tuple[Optional[bytes], Optional[bytes], Opti
     return username if sign else None, password if colon else None, kind
 
 
-# The function of SQL for a call of rows.tsv. It has none for a port as text, and none for a query that is no reference's.
+# The function of SQL for a call of rows.tsv. It has none for a port as text, and none for a query that is no reference's. That of an
+# address, and of the values of pairs, has another form in each database.
 SQL_CALLS = {"check": "uri_valid", "is_uri": "uri_is_uri", "port_number": "uri_port", "host_kind": "uri_host_kind",
              "host_flags": "uri_host_flags", "default_port": "uri_default_port", "origin": "uri_origin", "pairs": "uri_pairs",
              "pair": "uri_param", "with_pair": "uri_with_param", "with_appended_pair": "uri_with_appended_param",
              "without_pairs": "uri_without_params", "without_pair": "uri_without_param", "host_is_within": "uri_host_is_within",
              "is_within": "uri_is_within", "resolve": "uri_resolve", "relativize": "uri_relativize", "equal": "uri_equal",
-             "compare": "uri_compare", "replace": "uri_replace", "decode": "uri_decode", "encode": "uri_encode"}
+             "compare": "uri_compare", "replace": "uri_replace", "decode": "uri_decode", "encode": "uri_encode", "hash": "uri_hash",
+             "same_origin": "uri_same_origin", "is_normalized": "uri_is_normalized", "is_ambiguous": "uri_is_ambiguous",
+             "port_or_default": "uri_port_or_default", "host_address": "uri_host_address", "pair_values": "uri_param_values",
+             "form_decode": "uri_form_decode", "trim_link": "uri_trim_link"}
 NO_SQL_CALLS = {"port", "drop_pairs"}
-BOOLEAN_CALLS = {"check", "is_uri", "host_is_within", "is_within", "equal"}
+BOOLEAN_CALLS = {"check", "is_uri", "host_is_within", "is_within", "equal", "same_origin", "is_normalized", "is_ambiguous"}
+# The calls whose first argument is no reference.
+CALLS_OF_DATA = {"decode", "form_decode", "is_ambiguous"}
 
 
 class Meaning(NamedTuple):
@@ -178,13 +184,13 @@ def meanings() -> List[Meaning]:
             found.append(Meaning(call, values, _meant(answer), None))
     assert {row.call for row in found} == {*SQL_CALLS, *NO_SQL_CALLS}
     found = [row for row in found if row.call in SQL_CALLS]
-    assert len(found) > 250, len(found)
+    assert len(found) > 400, len(found)
     return found
 
 
 def error_texts() -> Dict[str, str]:
-    """The texts of the codes of uriparse.h, by their names in rows.tsv."""
-    with open(os.path.join(TOP, "bindings/c/uriparse.h"), encoding="utf-8") as file:
+    """The texts of the codes of the library for C, by their names in rows.tsv."""
+    with open(os.path.join(TOP, "bindings/c/calls.c"), encoding="utf-8") as file:
         return dict(re.findall(r'case URIPARSE_(\w+): return "(.*)";', file.read()))
 
 

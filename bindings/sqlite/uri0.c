@@ -142,6 +142,23 @@ static void compare(sqlite3_context *context, int count, sqlite3_value **values)
     sqlite3_result_int(context, order);
 }
 
+static void same_origin(sqlite3_context *context, int count, sqlite3_value **values) {
+  struct text left, right;
+  bool is_same;
+  (void)count;
+  if (read_text(context, values[0], &left) && read_text(context, values[1], &right) &&
+      uriparse_same_origin(left.at, left.len, right.at, right.len, &is_same) == URIPARSE_OK)
+    sqlite3_result_int(context, is_same);
+}
+
+static void is_normalized(sqlite3_context *context, int count, sqlite3_value **values) {
+  struct text text;
+  bool normalized;
+  (void)count;
+  if (read_text(context, values[0], &text) && uriparse_is_normalized(text.at, text.len, &normalized) == URIPARSE_OK)
+    sqlite3_result_int(context, normalized);
+}
+
 /* uri_is_within(uri, base) */
 static void is_within(sqlite3_context *context, int count, sqlite3_value **values) {
   struct text text, base;
@@ -169,6 +186,24 @@ static void host_flags(sqlite3_context *context, int count, sqlite3_value **valu
   (void)count;
   if (read_text(context, values[0], &text) && uriparse_host_flags(text.at, text.len, &flags) == URIPARSE_OK)
     sqlite3_result_int64(context, flags);
+}
+
+/* Of a segment of a path. */
+static void is_ambiguous(sqlite3_context *context, int count, sqlite3_value **values) {
+  struct text segment;
+  bool ambiguous;
+  (void)count;
+  if (read_text(context, values[0], &segment) && uriparse_is_ambiguous(segment.at, segment.len, &ambiguous) == URIPARSE_OK)
+    sqlite3_result_int(context, ambiguous);
+}
+
+/* The port or the default port of the scheme; NULL if there is neither. */
+static void port_or_default(sqlite3_context *context, int count, sqlite3_value **values) {
+  struct text text;
+  int32_t number;
+  (void)count;
+  if (read_text(context, values[0], &text) && uriparse_port_or_default(text.at, text.len, &number) == URIPARSE_OK && number >= 0)
+    sqlite3_result_int(context, number);
 }
 
 /* The default port of a scheme; NULL if it has none. */
@@ -247,12 +282,31 @@ static void origin(sqlite3_context *context, int count, sqlite3_value **values) 
   result_written(context, count, values, write_origin);
 }
 
-/* The bytes that the text of a component stands for: a text if they are UTF-8 without a zero byte, else a blob. */
-static void result_decoded(sqlite3_context *context, const char *at, size_t len) {
+/* The address that is the host, as normal forms write it but without brackets; NULL if there is none. No text of an address is longer. */
+static void host_address(sqlite3_context *context, int count, sqlite3_value **values) {
+  char spelled[64] = "//", out[64];
+  struct text text;
+  struct uriparse_parts parts;
+  size_t len;
+  (void)count;
+  if (!read_reference(context, values[0], &text, &parts)) return;
+  len = parts.host.end - parts.host.begin;
+  if (parts.host_kind == URIPARSE_HOST_IPV4) result_span(context, &text, parts.host);
+  if (parts.host_kind != URIPARSE_HOST_IPV6) return;
+  memcpy(spelled + 2, text.at + parts.host.begin, len);
+  if (uriparse_normalize(spelled, len + 2, out, sizeof out, &len) == URIPARSE_OK)
+    sqlite3_result_text64(context, out + 3, len - 5, SQLITE_TRANSIENT, SQLITE_UTF8);
+}
+
+/* A call that writes at most as many bytes as the text has. */
+typedef uint32_t decoder(const void *text, size_t len, void *out, size_t room, size_t *needed);
+
+/* The bytes that the call writes: a text if they are UTF-8 without a zero byte, else a blob. */
+static void result_decoded(sqlite3_context *context, decoder *call, const char *at, size_t len) {
   char *out = sqlite3_malloc64(len + 1);
   if (!out)
     sqlite3_result_error_nomem(context);
-  else if (uriparse_decode(at, len, out, len, &len) != URIPARSE_OK)
+  else if (call(at, len, out, len, &len) != URIPARSE_OK)
     sqlite3_free(out);
   else if (pairs_are_text(out, len))
     sqlite3_result_text64(context, out, len, sqlite3_free, SQLITE_UTF8);
@@ -263,7 +317,19 @@ static void result_decoded(sqlite3_context *context, const char *at, size_t len)
 static void decode(sqlite3_context *context, int count, sqlite3_value **values) {
   struct text text;
   (void)count;
-  if (read_text(context, values[0], &text)) result_decoded(context, text.at, text.len);
+  if (read_text(context, values[0], &text)) result_decoded(context, uriparse_decode, text.at, text.len);
+}
+
+static void form_decode(sqlite3_context *context, int count, sqlite3_value **values) {
+  struct text text;
+  (void)count;
+  if (read_text(context, values[0], &text)) result_decoded(context, uriparse_form_decode, text.at, text.len);
+}
+
+static void trim_link(sqlite3_context *context, int count, sqlite3_value **values) {
+  struct text text;
+  (void)count;
+  if (read_text(context, values[0], &text)) result_decoded(context, uriparse_trim_link, text.at, text.len);
 }
 
 /* The place of a name in a list that ends with NULL. If it isn't there the function's result is an error. */
@@ -341,7 +407,62 @@ static void param(sqlite3_context *context, int count, sqlite3_value **values) {
   (void)count;
   if (read_query(context, values[0], &text, &query, &present) && read_text(context, values[1], &name) && present &&
       uriparse_find_pair(query.at, query.len, name.at, name.len, &pair))
-    result_decoded(context, query.at + pair.value.begin, pair.value.end - pair.value.begin);
+    result_decoded(context, uriparse_decode, query.at + pair.value.begin, pair.value.end - pair.value.begin);
+}
+
+/* Appends bytes to an array of JSON: as a string if they are UTF-8 without a zero byte, else as null. */
+static void append_string(sqlite3_str *json, const char *at, size_t len) {
+  if (sqlite3_str_length(json) > 1) sqlite3_str_appendchar(json, 1, ',');
+  if (!pairs_are_text(at, len)) {
+    sqlite3_str_appendall(json, "null");
+    return;
+  }
+  sqlite3_str_appendchar(json, 1, '"');
+  for (size_t i = 0; i < len; i++) {
+    if ((unsigned char)at[i] < ' ')
+      sqlite3_str_appendf(json, "\\u%04x", at[i]);
+    else if (at[i] == '"' || at[i] == '\\')
+      sqlite3_str_appendf(json, "\\%c", at[i]);
+    else
+      sqlite3_str_appendchar(json, 1, at[i]);
+  }
+  sqlite3_str_appendchar(json, 1, '"');
+}
+
+/* What the array has. */
+static void result_json(sqlite3_context *context, sqlite3_str *json) {
+  int code = sqlite3_str_errcode(json), len = sqlite3_str_length(json);
+  char *text = sqlite3_str_finish(json);
+  if (code == SQLITE_TOOBIG)
+    sqlite3_result_error_toobig(context);
+  else if (!text)
+    sqlite3_result_error_nomem(context);
+  else
+    sqlite3_result_text(context, text, len, sqlite3_free);
+}
+
+/* uri_param_values(t, name): an array of JSON with the value of each pair of the name, as uri_param has it. */
+static void param_values(sqlite3_context *context, int count, sqlite3_value **values) {
+  struct text text, query, name;
+  struct uriparse_pair pair;
+  bool present;
+  char *value;
+  (void)count;
+  if (!read_query(context, values[0], &text, &query, &present) || !read_text(context, values[1], &name)) return;
+  value = sqlite3_malloc64((sqlite3_uint64)query.len + 1);
+  if (!value) {
+    sqlite3_result_error_nomem(context);
+    return;
+  }
+  sqlite3_str *json = sqlite3_str_new(sqlite3_context_db_handle(context));
+  sqlite3_str_appendchar(json, 1, '[');
+  for (size_t at = 0; present && uriparse_find_next_pair(query.at, query.len, at, name.at, name.len, &pair); at = pair.next) {
+    size_t len = pair.value.end - pair.value.begin;
+    if (uriparse_decode(query.at + pair.value.begin, len, value, len, &len) == URIPARSE_OK) append_string(json, value, len);
+  }
+  sqlite3_str_appendchar(json, 1, ']');
+  sqlite3_free(value);
+  result_json(context, json);
 }
 
 /* The reference with this query, or without one. */
@@ -569,7 +690,7 @@ static int pairs_column(sqlite3_vtab_cursor *cursor, sqlite3_context *context, i
   if (column == URI)
     sqlite3_result_value(context, pairs->uri);
   else if (span.present)
-    result_decoded(context, pairs->query + span.begin, span.end - span.begin);
+    result_decoded(context, uriparse_decode, pairs->query + span.begin, span.end - span.begin);
   return SQLITE_OK;
 }
 
@@ -637,6 +758,10 @@ static const struct {
   {"uri_is_uri", 1, is_uri, NULL},         {"uri_param", 2, param, NULL},
   {"uri_with_param", 3, with_param, NULL}, {"uri_with_appended_param", 3, with_appended_param, NULL},
   {"uri_without_param", 2, without_param, NULL}, {"uri_without_params", -1, without_params, NULL},
+  {"uri_same_origin", 2, same_origin, NULL}, {"uri_is_normalized", 1, is_normalized, NULL},
+  {"uri_is_ambiguous", 1, is_ambiguous, NULL}, {"uri_port_or_default", 1, port_or_default, NULL},
+  {"uri_host_address", 1, host_address, NULL}, {"uri_param_values", 2, param_values, NULL},
+  {"uri_form_decode", 1, form_decode, NULL}, {"uri_trim_link", 1, trim_link, NULL},
 };
 
 __attribute__((visibility("default")))
@@ -644,8 +769,11 @@ int sqlite3_uri_init(sqlite3 *db, char **message, const sqlite3_api_routines *ap
 
 int sqlite3_uri_init(sqlite3 *db, char **message, const sqlite3_api_routines *api) {
   int code = SQLITE_OK, flags = SQLITE_UTF8 | SQLITE_DETERMINISTIC | SQLITE_INNOCUOUS;
-  (void)message;
   SQLITE_EXTENSION_INIT2(api);
+  if (strcmp(uriparse_version(), URIPARSE_VERSION) != 0) {
+    *message = sqlite3_mprintf("uri0 is of version %s, and its library of %s", URIPARSE_VERSION, uriparse_version());
+    return SQLITE_ERROR;
+  }
   for (size_t i = 0; i < sizeof FUNCTIONS / sizeof *FUNCTIONS && code == SQLITE_OK; i++)
     code = sqlite3_create_function_v2(db, FUNCTIONS[i].name, FUNCTIONS[i].count, flags, (void *)FUNCTIONS[i].place,
                                       FUNCTIONS[i].call, NULL, NULL, NULL);

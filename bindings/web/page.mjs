@@ -221,25 +221,25 @@ async function shoot(picture) {
 const ROWS = [
   ["text=http://u@h:8/a?q%23f", { verdict: "A URI.", invalid: [], normal: "http://u@h:8/a?q#f", "text-mirror": "http://u@h:8/a?q#f", "text-spelled": "" }],
   ["text=HTTP://h/a/../%257Eb", { normal: "http://h/~b" }],
-  ["text=http://h/a%20b", { verdict: "Rejected at byte 10: invalid byte in the path, a space (U+0020).", "text-mirror": "http://h/a b", "text-spelled": "http://h/a␣^b", invalid: ["text"] }],
-  ["text=%20", { verdict: "Rejected at byte 0: invalid byte in the path, a space (U+0020)." }],
-  ["text=1:2", { verdict: "Rejected at byte 0: a colon in the first segment of a reference without a scheme." }],
-  ["text=http://h/a%0Ab", { values: ["http://h/a\nb", "", ""], verdict: "Rejected at byte 10: invalid byte in the path, a newline (U+000A).", "text-spelled": "http://h/aU+000A^b" }],
-  ["text=http://h/a%09b", { verdict: "Rejected at byte 10: invalid byte in the path, a tab (U+0009).", "text-spelled": "http://h/aU+0009^b" }],
-  ["text=http://h/%E2%80%AEb", { verdict: "Rejected at byte 9: invalid byte in the path, U+202E.", "text-spelled": "http://h/U+202E^b" }],
-  ["text=http://h/b%E2%80%8B", { verdict: "Rejected at byte 10: invalid byte in the path, a zero-width space (U+200B)." }],
+  ["text=http://h/a%20b", { verdict: "Rejected at byte 10: invalid path character, a space (U+0020).", "text-mirror": "http://h/a b", "text-spelled": "http://h/a␣^b", invalid: ["text"] }],
+  ["text=%20", { verdict: "Rejected at byte 0: invalid path character, a space (U+0020)." }],
+  ["text=1:2", { verdict: "Rejected at byte 0: schemeless path URI reference starts with colon segment." }],
+  ["text=http://h/a%0Ab", { values: ["http://h/a\nb", "", ""], verdict: "Rejected at byte 10: invalid path character, a newline (U+000A).", "text-spelled": "http://h/aU+000A^b" }],
+  ["text=http://h/a%09b", { verdict: "Rejected at byte 10: invalid path character, a tab (U+0009).", "text-spelled": "http://h/aU+0009^b" }],
+  ["text=http://h/%E2%80%AEb", { verdict: "Rejected at byte 9: invalid path character, U+202E.", "text-spelled": "http://h/U+202E^b" }],
+  ["text=http://h/b%E2%80%8B", { verdict: "Rejected at byte 10: invalid path character, a zero-width space (U+200B)." }],
   ["text=http://h/e%CC%81%F0%9F%98%80", { "text-spelled": "http://h/eU+0301^😀" }],
   [`text=http://h/${"a".repeat(100)}{${"b".repeat(100)}`, { "text-spelled": `…${"a".repeat(16)}{^${"b".repeat(15)}…` }],
   ["text=../g&base=http://a/b/c/d", { target: "→ http://a/b/g", invalid: [] }],
   ["text=g&base=/a", { target: "Rejected: the base has no scheme.", invalid: ["base"] }],
-  ["text=g&base=s:a%20b", { target: "Rejected at byte 3: invalid byte in the path, a space (U+0020).", "base-spelled": "s:a␣^b", invalid: ["base"] }],
+  ["text=g&base=s:a%20b", { target: "Rejected at byte 3: invalid path character, a space (U+0020).", "base-spelled": "s:a␣^b", invalid: ["base"] }],
   ["text=a%20b&base=s:a&other=a", { target: "No target: the text is rejected.", equal: "No comparison: the text is rejected.", invalid: ["text"] }],
   ["text=a", { target: "No target: the base is empty.", equal: "No comparison: the other text is empty." }],
   ["text=http://h/~&other=HTTP://H/%257e", { equal: "equal" }],
   ["text=a&other=b", { equal: "different" }],
   ["text=/b&other=/a/../b", { equal: "different: the normal forms are the same text, but dot segments count" }],
   ["text=//1.2.3.4&other=//%2531.2.3.4", { equal: "different: the normal forms are the same text, but a name is no address" }],
-  ["text=a&other=b%5B", { equal: "Rejected at byte 1: invalid byte in the path.", "other-spelled": "b[^", invalid: ["other"] }],
+  ["text=a&other=b%5B", { equal: "Rejected at byte 1: invalid path character.", "other-spelled": "b[^", invalid: ["other"] }],
   ["text=", { values: ["", "", ""], link: "#text=", verdict: "A relative reference.", normal: "Empty, as the text is." }],
   ["text=a?b+c%2B&base=%zz", { values: ["a?b+c+", "%zz", ""], link: "#text=a%3Fb%2Bc%2B&base=%25zz" }],
   ["", { values: ["HTTP://user@Example.com:80/a/../%7Eb?q=1#top", "http://example.com/docs/", "http://user@example.com:80/~b?q=1#top"],
@@ -408,7 +408,7 @@ await test("what is typed and pasted", async () => {
   await tab.key("Enter");
   assert.equal((await shown()).values[0], "a");
   await tab.insert("\nb");
-  assert.equal((await shown()).verdict, "Rejected at byte 1: invalid byte in the path, a newline (U+000A).");
+  assert.equal((await shown()).verdict, "Rejected at byte 1: invalid path character, a newline (U+000A).");
 });
 
 await test("an example gets the focus", async () => {

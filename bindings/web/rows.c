@@ -112,6 +112,21 @@ static void print_pairs(const char *query, size_t len) {
   putchar(']');
 }
 
+/* The bytes of the values of all pairs of a name. */
+static void print_values(const char *query, size_t len, bool has_query, const char *name, size_t name_len) {
+  static uint8_t out[ROOM];
+  struct uriparse_pair pair;
+  printf(",\"pairValues\":[");
+  for (size_t at = 0; has_query && uriparse_find_next_pair(query, len, at, name, name_len, &pair); at = pair.next) {
+    size_t needed;
+    uriparse_decode(query + pair.value.begin, pair.value.end - pair.value.begin, out, ROOM, &needed);
+    printf("\"");
+    for (size_t i = 0; i < needed; i++) printf("%02x", out[i]);
+    printf("\",");
+  }
+  printf("null]");
+}
+
 /* What the calls of pairs do to the query of a reference. */
 static void print_edits(const char *query, size_t query_len, bool has_query, const char *name, size_t name_len, const char *value, size_t len) {
   static uint8_t out[ROOM];
@@ -133,6 +148,7 @@ static void print_edits(const char *query, size_t query_len, bool has_query, con
   } else {
     printf(",\"pair\":null");
   }
+  print_values(query, query_len, has_query, name, name_len);
 }
 
 static void print_encoded(const char *text, size_t len) {
@@ -153,12 +169,21 @@ static void print_encoded(const char *text, size_t len) {
   putchar(']');
 }
 
+/* Whether a name is in a list, in which a space follows each. */
+static bool is_one_of(const char *name, const char *list) {
+  for (size_t len; *list; list += len + 1) {
+    len = strcspn(list, " ");
+    if (strlen(name) == len && memcmp(name, list, len) == 0) return true;
+  }
+  return false;
+}
+
 /* What a call by its number writes to its number, or its code. */
 static void print_call(int which, const char *base, size_t base_len, const char *text, size_t len) {
   static struct written to;
   const uint32_t code = call(which, base, base_len, text, len, &to);
   const char *name = names[which];
-  const bool is_answer = strcmp(name, "equal") == 0 || strcmp(name, "is_within") == 0 || strcmp(name, "host_is_within") == 0;
+  const bool is_answer = is_one_of(name, "equal same_origin is_normalized is_ambiguous is_within host_is_within ");
   if (strcmp(name, "parse") == 0) {
     print_parts(code, &to.parts);
   } else if (strcmp(name, "is_uri") == 0) {
@@ -175,7 +200,9 @@ static void print_call(int which, const char *base, size_t base_len, const char 
     printf(",\"host_flags\":\"%u\"", to.flags);
   } else if (strcmp(name, "hash") == 0 && code == URIPARSE_OK) {
     printf(",\"hash\":\"%llu\"", (unsigned long long)to.hash);
-  } else if (strcmp(name, "decode") == 0) {
+  } else if (strcmp(name, "port_or_default") == 0 && code == URIPARSE_OK) {
+    printf(",\"port_or_default\":\"%d\"", (int)to.order);
+  } else if (is_one_of(name, "decode form_decode host_address ")) {
     print_bytes(name, code, to.out, to.needed);
   } else {
     print_written(name, code, to.out, to.needed);
@@ -184,12 +211,7 @@ static void print_call(int which, const char *base, size_t base_len, const char 
 
 /* The calls of which print_edits, print_encoded and print_pairs have others. */
 static bool has_own_row(const char *name) {
-  static const char *const others[] = {"encode", "next_pair", "find_pair", "set_pair", "append_pair", "drop_pairs"};
-  bool found = false;
-  for (size_t i = 0; i < sizeof others / sizeof others[0]; i++) {
-    found = found || strcmp(name, others[i]) == 0;
-  }
-  return !found;
+  return !is_one_of(name, "encode next_pair find_pair find_next_pair set_pair append_pair drop_pairs ");
 }
 
 int main(void) {

@@ -8,6 +8,7 @@ import { load, URIParseError } from "./uriparse.mjs";
 
 const HOST_KINDS = { name: 1, ipv4: 4, ipv6: 6, ipvfuture: 7 };
 const NO_ORIGIN = 10;
+const NO_ADDRESS = 15;
 
 const [module, rows] = process.argv.slice(2);
 const uris = await load(pathToFileURL(module));
@@ -37,22 +38,30 @@ function flags(text) {
 // The query of a reference whose pairs are edited.
 const edited = (call, ...words) => result(() => uris.parse(call(...words)).query);
 
-// The bytes of a value that are text.
-function pairOf(text, name) {
+const hex = (bytes) => Buffer.from(bytes).toString("hex");
+
+// What a call returns, or that a value isn't text.
+function textual(call) {
   try {
-    const value = uris.pair(text, name);
-    return value === null ? null : Buffer.from(value).toString("hex");
+    return call();
   } catch (error) {
     assert(error instanceof TypeError);
     return "not UTF-8";
   }
 }
 
+// The bytes of a value that are text.
+function pairOf(text, name) {
+  const value = uris.pair(text, name);
+  return value === null ? null : hex(value);
+}
+
 const isText = (bytes) => Buffer.from(bytes.toString()).equals(bytes);
 
 const edits = (base, text) => ({
   withPair: edited(uris.withPair, text, base, text), withAppendedPair: edited(uris.withAppendedPair, text, base, null),
-  withoutPairs: edited(uris.withoutPairs, text, base), pair: pairOf(text, base),
+  withoutPairs: edited(uris.withoutPairs, text, base), pair: textual(() => pairOf(text, base)),
+  pairValues: textual(() => [...uris.pairValues(text, base).map(hex), null]),
 });
 
 function row(number, base, text) {
@@ -60,7 +69,10 @@ function row(number, base, text) {
   return {
     row: number, text, base, parse: result(() => parts(text)), is_uri: uris.isURI(text), equal: result(() => uris.equal(base, text)),
     hash: result(() => String(uris.hash(text))), first_fault: fault && [fault.code, fault.place], normalize: result(() => uris.normalize(text)),
-    decode: result(() => Buffer.from(uris.decode(text)).toString("hex")), escape: uris.escape(text),
+    decode: result(() => hex(uris.decode(text))), form_decode: result(() => hex(uris.formDecode(text))), escape: uris.escape(text),
+    trim_link: uris.trimLink(text), same_origin: result(() => uris.sameOrigin(base, text)), is_normalized: result(() => uris.isNormalized(text)),
+    is_ambiguous: result(() => uris.isAmbiguous(text)), port_or_default: result(() => String(uris.portOrDefault(text) ?? -1)),
+    host_address: result(() => { const address = uris.hostAddress(text); return address ? hex(address) : NO_ADDRESS; }),
     origin: result(() => uris.origin(text) ?? NO_ORIGIN), relativize: result(() => uris.relativize(base, text)),
     change: result(() => uris.replace(text, { query: base, port: null })), compare: result(() => String(uris.compare(base, text))),
     is_within: result(() => uris.isWithin(text, base)), host_is_within: result(() => uris.hostIsWithin(text, base)),
@@ -74,6 +86,9 @@ const expected = JSON.parse(await readFile(rows, "utf8"));
 for (const one of expected) {
   if (one.pair && !isText(Buffer.from(one.pair, "hex"))) {
     one.pair = "not UTF-8";
+  }
+  if (one.pairValues?.some((value) => value && !isText(Buffer.from(value, "hex")))) {
+    one.pairValues = "not UTF-8";
   }
   assert.deepEqual(row(one.row, one.base, one.text), one);
 }

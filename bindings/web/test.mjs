@@ -113,34 +113,34 @@ for (const [text, place, component] of FAULTS) {
   });
 }
 
-await test("the messages are those of the header", async () => {
-  const header = await readFile(new URL("../c/uriparse.h", import.meta.url), "utf8");
-  const codes = new Map([...header.matchAll(/^  URIPARSE_(\w+) = (0x\w+|\d+)/gm)].map(([, name, code]) => [name, Number(code)]));
-  const texts = [...header.matchAll(/case URIPARSE_(\w+): return "(.*)";/g)].map(([, name, text]) => [codes.get(name), text]);
-  assert.equal(texts.length, 34);
-  for (const [code, text] of texts.filter(([code]) => code > 2)) {
+await test("the messages are those of codes.tsv", async () => {
+  const table = await readFile(new URL("../codes.tsv", import.meta.url), "utf8");
+  const rows = table.split("\n").filter((line) => line && line[0] !== "#").map((line) => line.split("\t"));
+  const texts = rows.filter(([code, name]) => Number(code) > 2 && name !== "-").map((row) => [Number(row[0]), row[6]]);
+  assert.ok(texts.length > 30);
+  for (const [code, text] of texts) {
     assert.equal(new URIParseError(code, null, "").message, text);
   }
 });
 
 await test("no fault", () => assert.equal(uris.fault("http://h/a"), null));
-await test("a base without a scheme", () => assert.throws(() => uris.resolve("/a", "b"), { inBase: true, argument: "base", component: "scheme", code: 0x103, place: 0, message: "base: the scheme is missing" }));
-await test("a base whose colon stands in a segment", () => assert.throws(() => uris.resolve("1:2", "b"), { place: 0, message: "base: the scheme is missing" }));
+await test("a base without a scheme", () => assert.throws(() => uris.resolve("/a", "b"), { inBase: true, argument: "base", component: "scheme", code: 0x103, place: 0, message: "base: not URI" }));
+await test("a base whose colon stands in a segment", () => assert.throws(() => uris.resolve("1:2", "b"), { place: 0, message: "base: not URI" }));
 await test("the base's error comes first", () => assert.throws(() => uris.resolve("s:%", "%"), { inBase: true, argument: "base", text: "s:%" }));
 await test("the reference's error", () => assert.throws(() => uris.resolve("s:a", "%"), { inBase: false, argument: "reference", text: "%", place: 0 }));
 await test("the merged path has too many segments", () => {
   const half = "a/".repeat(600000);
-  assert.throws(() => uris.resolve(`s:/${half}`, half), { code: 5, argument: "reference", place: 0, message: "reference: the path has too many segments" });
+  assert.throws(() => uris.resolve(`s:/${half}`, half), { code: 5, argument: "reference", place: 0, message: "reference: exceeded maximum path length" });
 });
 await test("the left one's error", () => assert.throws(() => uris.equal("b c", "b c"), { argument: "left", text: "b c", place: 1 }));
 await test("the right one's error", () => assert.throws(() => uris.equal("a", "b c"), { argument: "right", text: "b c", place: 1 }));
 await test("the message names the text and the place", () => {
-  assert.throws(() => uris.parse("http://h/a b"), { argument: "text", message: "invalid byte in the path, at index 10" });
-  assert.throws(() => uris.decode("a%2"), { message: "invalid percent-encoding in the query, at index 1" });
-  assert.throws(() => uris.resolve("s:%", ""), { message: "base: invalid percent-encoding in the path, at index 2" });
-  assert.throws(() => uris.resolve("s:", "a b"), { message: "reference: invalid byte in the path, at index 1" });
-  assert.throws(() => uris.equal("b c", ""), { message: "left: invalid byte in the path, at index 1" });
-  assert.throws(() => uris.equal("", "b c"), { message: "right: invalid byte in the path, at index 1" });
+  assert.throws(() => uris.parse("http://h/a b"), { argument: "text", message: "invalid path character, at index 10" });
+  assert.throws(() => uris.decode("a%2"), { message: "invalid query percent encoding, at index 1" });
+  assert.throws(() => uris.resolve("s:%", ""), { message: "base: invalid path percent encoding, at index 2" });
+  assert.throws(() => uris.resolve("s:", "a b"), { message: "reference: invalid path character, at index 1" });
+  assert.throws(() => uris.equal("b c", ""), { message: "left: invalid path character, at index 1" });
+  assert.throws(() => uris.equal("", "b c"), { message: "right: invalid path character, at index 1" });
 });
 await test("a lone surrogate", () => {
   assert.equal(uris.fault("a\ud800").place, 1);
@@ -152,7 +152,8 @@ await test("a lone surrogate", () => {
 await test("a URL", () => assert.equal(uris.normalize(new URL("http://h/%7Ea")), "http://h/~a"));
 await test("a value that is no text", () => {
   for (const value of [undefined, null, 1, true, ["a"], {}, Symbol("a")]) {
-    for (const name of ["parse", "fault", "isURI", "hash", "normalize", "origin", "escape", "decode", ...(value === null ? [] : ["pairs"])]) {
+    for (const name of ["parse", "fault", "isURI", "hash", "normalize", "origin", "escape", "decode", "formDecode", "trimLink", "isNormalized",
+      "isAmbiguous", "portOrDefault", "hostAddress", ...(value === null ? [] : ["pairs"])]) {
       assert.throws(() => uris[name](value), TypeError, name);
     }
     assert.throws(() => uris.pair("s:", value), TypeError);
@@ -187,7 +188,7 @@ await test("what leads to a URI", () => {
   assert.equal(uris.relativize("http://a/b/c/d?q", "http://a/b/g#s"), "../g#s");
   assert.equal(uris.relativize(new URL("http://a/b"), new URL("http://c/")), "//c/");
   assert.equal(uris.relativize("s:a", "s:a"), "");
-  assert.throws(() => uris.relativize("s:", "/a"), { inBase: false, argument: "uri", component: "scheme", code: 3, place: 0, message: "uri: the scheme is missing" });
+  assert.throws(() => uris.relativize("s:", "/a"), { inBase: false, argument: "uri", component: "scheme", code: 3, place: 0, message: "uri: not URI" });
   assert.throws(() => uris.relativize("/a", "%"), { inBase: true, argument: "base", code: 0x103 });
 });
 
@@ -236,6 +237,26 @@ await test("rows of hostile input", async () => {
     assert.equal(answer === undefined ? "rejected" : { true: "yes", false: "no" }[answer] ?? String(answer), expected, `${call} ${text}`);
   }
   assert(asked.length > 700);
+});
+
+await test("addresses, ports, segments, forms and links", () => {
+  assert.deepEqual(uris.hostAddress("//1.2.3.4:80"), new Uint8Array([1, 2, 3, 4]));
+  assert.deepEqual([...uris.hostAddress(new URL("http://[::1]/"))], [...new Array(15).fill(0), 1]);
+  const kept = uris.hostAddress("//1.2.3.4");
+  uris.normalize("HTTP://h/%7e");
+  assert.deepEqual([...kept], [1, 2, 3, 4]);
+  assert.deepEqual([uris.hostAddress("//h"), uris.hostAddress("//127.1"), uris.portOrDefault("//h")], [null, null, null]);
+  assert.deepEqual([uris.portOrDefault("https://h"), uris.portOrDefault("//h:0")], [443, 0]);
+  assert.throws(() => uris.isAmbiguous("a/b"), { name: "URIParseError", argument: "segment", code: 0x51, component: "path", place: 1, text: "a/b" });
+  assert.throws(() => uris.sameOrigin("a", "b c"), { argument: "right", place: 1 });
+  assert.throws(() => uris.formDecode("+\u00e9"), { code: 0x61, place: 1 });
+  assert.equal(uris.trimLink(` <URL:\thttp://h/\u00e9\u{1f600}>\n`), "http://h/\u00e9\u{1f600}");
+  assert.throws(() => uris.trimLink("\ud800"), TypeError);
+  assert.deepEqual(uris.pairValues("?a=1&b&%61=%C3%BC&a", "a"), ["1", "\u00fc", ""]);
+  assert.deepEqual(uris.pairValues("?%FF=1&a&%ff=2", uris.decode("%FF")), ["1", "2"]);
+  assert.equal(uris.pairValues(`?${"a=%31&".repeat(10_000)}`, "a").join(""), "1".repeat(10_000));
+  assert.throws(() => uris.pairValues("?a=1&a=%FF", "a"), TypeError);
+  assert.throws(() => uris.pairValues("a b", "a"), { code: 0x51, argument: "text" });
 });
 
 await test("pairs by name", () => {
@@ -320,9 +341,11 @@ const header = await readFile(new URL("../c/uriparse.h", import.meta.url), "utf8
 const codes = header.slice(header.indexOf("enum uriparse_code {"), header.indexOf("URIPARSE_COMPONENT_MASK = "));
 const CODE_NAMES = new Map([...codes.matchAll(/^  URIPARSE_(\w+) = (0x\w+|\d+)/gm)].map(([, name, code]) => [Number(code), name]));
 const flagsOf = (text) => Object.values(uris.hostFlags(text)).reduce((sum, isSet, at) => sum + (isSet ? 1 << at : 0), 0);
+const listedValues = (text, name) => uris.pairValues(text, name).map((value) => `<${value}>`).join("");
 const listedPairs = (text) => uris.pairs(uris.parse(text).query).map(([name, value]) => `<${name}${value === null ? "" : `=${value}`}>`).join("");
-// A value as text, or as bytes if it is none.
-const decoded = (text) => meant([...uris.decode(text)].map((byte) => `\\x${byte.toString(16).padStart(2, "0")}`).join(""));
+// Bytes as text, or as they are if they are none.
+const spelled = (bytes) => bytes && meant([...bytes].map((byte) => `\\x${byte.toString(16).padStart(2, "0")}`).join(""));
+const decoded = (text) => spelled(uris.decode(text));
 // A call, and what its errors call its arguments.
 const SHARED = {
   check: [(text) => Boolean(uris.parse(text)), "text"], is_uri: [uris.isURI], port: [(text) => uris.parse(text).port, "text"],
@@ -331,7 +354,11 @@ const SHARED = {
   pairs: [listedPairs, "text"], pair: [uris.pair, "text"], with_pair: [uris.withPair, "text"], with_appended_pair: [uris.withAppendedPair, "text"],
   without_pairs: [uris.withoutPairs, "text", "names"], without_pair: [uris.withoutPair, "text"], host_is_within: [uris.hostIsWithin, "text", "domain"],
   is_within: [uris.isWithin, "uri", "base"], resolve: [uris.resolve, "base", "reference"], relativize: [uris.relativize, "base", "uri"],
-  equal: [uris.equal, "left", "right"], compare: [uris.compare, "left", "right"], decode: [decoded, "text"], encode: [uris.encode],
+  equal: [uris.equal, "left", "right"], compare: [uris.compare, "left", "right"], decode: [decoded, "text"],
+  same_origin: [uris.sameOrigin, "left", "right"], is_normalized: [uris.isNormalized, "text"], is_ambiguous: [uris.isAmbiguous, "segment"],
+  port_or_default: [uris.portOrDefault, "text"], host_address: [(text) => spelled(uris.hostAddress(text)), "text"], hash: [uris.hash, "text"],
+  pair_values: [listedValues, "text"], form_decode: [(text) => spelled(uris.formDecode(text)), "text"], trim_link: [uris.trimLink, "text"],
+  encode: [uris.encode],
   replace: [(text, name, value) => uris.replace(text, { [name]: value }), "text"],
 };
 // No call has a query that is no reference's, and a value that isn't UTF-8 is no string.
@@ -347,7 +374,7 @@ for (const row of tsv.split("\n").filter((line) => line && line[0] !== "#").map(
     const [mark, code, component, argument, place] = expected.split(" ");
     if (mark !== "!") {
       const given = answer(...fields.map(meant));
-      assert.deepEqual(typeof given === "number" || typeof given === "boolean" ? String(given) : given, meant(expected));
+      assert.deepEqual(["number", "bigint", "boolean"].includes(typeof given) ? String(given) : given, meant(expected));
       return;
     }
     assert.throws(() => answer(...fields.map(meant)), (error) => {
@@ -357,7 +384,7 @@ for (const row of tsv.split("\n").filter((line) => line && line[0] !== "#").map(
     });
   });
 }
-await test("the rows that all languages share", () => assert(shared > 250, `${shared} rows`));
+await test("the rows that all languages share", () => assert(shared > 400, `${shared} rows`));
 
 await test("components that are replaced", () => {
   assert.equal(uris.replace("HTTP://u:p@h:8080/%7Ea?q#f", { host: "example.org", username: null }), "HTTP://example.org:8080/%7Ea?q#f");
@@ -368,7 +395,7 @@ await test("components that are replaced", () => {
   assert.equal(uris.replace("s:", { path: "a".repeat(99999), fragment: "b".repeat(99999) }), `s:${"a".repeat(99999)}#${"b".repeat(99999)}`);
   assert.throws(() => uris.replace("a b", { host: "h" }), { code: 0x51, argument: "text", place: 1 });
   assert.throws(() => uris.replace("//h", { query: "", host: "a/b" }), { code: 0x31, argument: "host", component: "host", text: "a/b", place: 1,
-    message: "host: invalid byte or percent-encoding in the host, at index 1" });
+    message: "host: invalid host IPv4 or registered name character, at index 1" });
   assert.throws(() => uris.replace("//h", { port: 65536 }), { code: 0x42, argument: "port" });
   assert.throws(() => uris.replace("//h", { path: "\u00fc" }), { code: 0x51, argument: "path", text: "\u00fc" });
   assert.throws(() => uris.replace("//h", { username: "a:b" }), { code: 0x10, argument: "username" });
@@ -452,7 +479,9 @@ await test("a result that is too long for a string", () => {
     areRight();
   }
 });
-// A module without calls, or with one that traps, whose heap begins at this address.
+// A module of this version without calls, or with one that traps, whose heap begins at this address.
+const version = await readFile(new URL("../../VERSION", import.meta.url), "utf8");
+const ofThisVersion = `uriparse_version_${version.split(".").slice(0, 2).join("_")}`;
 function moduleAt(address, isTrapping = false) {
   const number = [];
   for (let rest = address; ; rest = Math.floor(rest / 128)) {
@@ -465,7 +494,7 @@ function moduleAt(address, isTrapping = false) {
   const [types, functions, exported, code] = isTrapping
     ? [section(1, [1, 96, 2, 126, 126, 1, 127]), section(3, [1, 0]), [...name("uriparse_is_uri"), 0, 0], section(10, [1, 3, 0, 0, 11])] : [[], [], [], []];
   return new Uint8Array([0, 97, 115, 109, 1, 0, 0, 0, ...types, ...functions, ...section(5, [1, 0, 1]), ...section(6, [1, 126, 0, 66, ...number, 11]),
-    ...section(7, [isTrapping ? 3 : 2, ...name("memory"), 2, 0, ...name("__heap_base"), 3, 0, ...exported]), ...code]);
+    ...section(7, [isTrapping ? 4 : 3, ...name("memory"), 2, 0, ...name("__heap_base"), 3, 0, ...name(ofThisVersion), 3, 0, ...exported]), ...code]);
 }
 await test("a memory ends a page below 4 GiB", async () => {
   const page = 65536;
@@ -534,6 +563,10 @@ await test("a runtime without WebAssembly, or without bulk memory", async () => 
     WebAssembly.validate = validate;
   }
   assert(isSupported());
+});
+await test("a module of another version", async () => {
+  const empty = new Uint8Array([0, 0x61, 0x73, 0x6d, 1, 0, 0, 0]);
+  await assert.rejects(load(empty), { message: "uriparse.wasm is of another version than uriparse.mjs" });
 });
 await test("many segments", () => assert.equal(uris.fault("a/".repeat(1000001)).code, 5));
 

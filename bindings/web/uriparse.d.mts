@@ -45,7 +45,7 @@ export class URIParseError extends Error {
   /** The text that is rejected. */
   readonly text: string;
   /** Which text of the call it is. Of `replace` also the component whose value it is, or the changes as a whole. */
-  readonly argument: "text" | "base" | "reference" | "left" | "right" | "uri" | "domain" | "names" | "changes" | Exclude<Component, "authority">;
+  readonly argument: "text" | "base" | "reference" | "left" | "right" | "uri" | "domain" | "segment" | "names" | "changes" | Exclude<Component, "authority">;
   /** Whether it is the base of `resolve`, `relativize` or `isWithin`. */
   readonly inBase: boolean;
 }
@@ -88,9 +88,16 @@ export interface URIs {
   isURI(text: Input): boolean;
   equal(left: Input, right: Input): boolean;
   compare(left: Input, right: Input): -1 | 0 | 1;
+  sameOrigin(left: Input, right: Input): boolean;
+  isNormalized(text: Input): boolean;
   isWithin(uri: Input, base: Input): boolean;
   hostIsWithin(text: Input, domain: string): boolean;
   hostFlags(text: Input): HostFlags;
+  /** The segment has no "/". */
+  isAmbiguous(segment: string): boolean;
+  portOrDefault(text: Input): number | null;
+  /** The 4 bytes of an IPv4 address, or the 16 bytes of an IPv6 address. Null for another host, or none. */
+  hostAddress(text: Input): Uint8Array | null;
   defaultPort(scheme: string): number | null;
   hash(text: Input): bigint;
   normalize(text: Input): string;
@@ -103,9 +110,13 @@ export interface URIs {
   /** A lone surrogate is a `TypeError`. */
   escape(text: Input): string;
   /** A lone surrogate is a `TypeError`. */
+  trimLink(text: Input): string;
+  /** A lone surrogate is a `TypeError`. */
   pairs(query: Input | null): Pair[];
   /** The decoded value of the first pair of this name: "" without an "=". One that isn't UTF-8 is a `TypeError`. */
   pair(uri: Input, name: Data): string | null;
+  /** The decoded values of all pairs of this name. One that isn't UTF-8 is a `TypeError`. */
+  pairValues(uri: Input, name: Data): string[];
   withPair(uri: Input, name: Data, value: Data | number | null): string;
   withAppendedPair(uri: Input, name: Data, value: Data | number | null): string;
   /** Names as they are written in a query: "utm_*" stands for each that begins with "utm_". */
@@ -114,6 +125,7 @@ export interface URIs {
   withoutPair(uri: Input, name: Data): string;
   encode(component: Encoded, data: Data): string;
   decode(text: Input): Uint8Array;
+  formDecode(text: Input): Uint8Array;
 }
 
 /** Whether there is WebAssembly with bulk memory instructions here. */

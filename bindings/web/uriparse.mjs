@@ -7,38 +7,44 @@
 // It needs WebAssembly with instructions for bulk memory: `isSupported()` reports whether they are there.
 
 const CODES = {
-  3: ["scheme", "the scheme is missing"],
-  4: ["path", "a colon in the first segment of a reference without a scheme"],
-  5: ["path", "the path has too many segments"],
-  6: ["path", "without an authority the path would start with two slashes"],
+  // codes.tsv: codes
+  3: ["scheme", "not URI"],
+  4: ["path", "schemeless path URI reference starts with colon segment"],
+  5: ["path", "exceeded maximum path length"],
+  6: ["path", "absolute path URI reference starts with two slashes"],
   8: [null, "no component has this number"],
   10: [null, "the reference has no origin"],
-  11: ["host", "a user name, password or port without a host"],
+  11: ["host", "user name, password or port without a host"],
   12: [null, "a change without a meaning"],
-  13: ["query", "the names of pairs are no query"],
+  13: ["query", "invalid names of pairs"],
   14: ["query", "no pair of the query is left"],
-  0x10: ["username", "a colon in the user name"],
-  0x11: ["username", "invalid byte in the user name"],
-  0x12: ["username", "invalid percent-encoding in the user name"],
-  0x21: ["password", "invalid byte in the password"],
-  0x22: ["password", "invalid percent-encoding in the password"],
-  0x31: ["host", "invalid byte or percent-encoding in the host"],
-  0x32: ["host", "invalid byte in the IPv6 address"],
-  0x33: ["host", "invalid form of the IPv6 address"],
-  0x34: ["host", "invalid byte in the IPvFuture address"],
-  0x35: ["host", "invalid form of the IPvFuture address"],
-  0x41: ["port", "invalid byte in the port"],
-  0x42: ["port", "the port is above 65535"],
-  0x51: ["path", "invalid byte in the path"],
-  0x52: ["path", "invalid percent-encoding in the path"],
-  0x61: ["query", "invalid byte in the query"],
-  0x62: ["query", "invalid percent-encoding in the query"],
-  0x71: ["fragment", "invalid byte in the fragment"],
-  0x72: ["fragment", "invalid percent-encoding in the fragment"],
-  0x80: ["scheme", "the scheme is empty"],
-  0x81: ["scheme", "invalid byte in the scheme"],
-  0x82: ["scheme", "the scheme does not start with a letter"],
+  15: [null, "the host is no IP address"],
+  0x10: ["username", "username contains a colon character"],
+  0x11: ["username", "invalid username character"],
+  0x12: ["username", "invalid username percent encoding"],
+  0x21: ["password", "invalid password character"],
+  0x22: ["password", "invalid password percent encoding"],
+  0x31: ["host", "invalid host IPv4 or registered name character"],
+  0x32: ["host", "invalid host IPv6 character"],
+  0x33: ["host", "invalid host IPv6 format"],
+  0x34: ["host", "invalid host IPvFuture character"],
+  0x35: ["host", "invalid host IPvFuture format"],
+  0x41: ["port", "invalid port character"],
+  0x42: ["port", "port overflow"],
+  0x51: ["path", "invalid path character"],
+  0x52: ["path", "invalid path percent encoding"],
+  0x61: ["query", "invalid query character"],
+  0x62: ["query", "invalid query percent encoding"],
+  0x71: ["fragment", "invalid fragment character"],
+  0x72: ["fragment", "invalid fragment percent encoding"],
+  0x80: ["scheme", "scheme is empty"],
+  0x81: ["scheme", "invalid scheme character"],
+  0x82: ["scheme", "scheme starts with non-alphabetic character"],
+  // codes.tsv: end
 };
+
+// What the module of this version exports.
+const OF_THIS_VERSION = "uriparse_version_0_4";
 
 const NO_ROOM = 2;
 const NO_SCHEME = 3;
@@ -46,6 +52,7 @@ const NO_ORIGIN = 10;
 const MISSING_HOST = 11;
 const BAD_NAMES = 13;
 const NO_PAIRS = 14;
+const NO_ADDRESS = 15;
 const SCHEME_LETTER = 0x82;
 const IN_BASE = 0x100;
 const HOST_KINDS = { 1: "name", 4: "ipv4", 6: "ipv6", 7: "ipvfuture" };
@@ -62,9 +69,10 @@ const HOST_KIND = COMPONENTS.length * SPAN;
 const PORT = HOST_KIND + 1;
 const PARTS = 4 * (PORT + 1);
 
-// The components that are replaced, in the order of its struct of changes, which has a span for each with what becomes of it.
+// The components that are replaced, in the order of its struct of changes, which has for each where its value is, and an action.
 const REPLACED = COMPONENTS.filter((name) => name !== "authority");
 const CHANGES = 4 * REPLACED.length * SPAN;
+const ACTION = 4;
 const SET = 1;
 const REMOVE = 2;
 
@@ -97,6 +105,7 @@ const AROUND = {
   host: ["//", /[/?#@:]/g, ""],
   port: ["//:", /[/?#@:[\]]/g, ""],
   path: ["//h/", /[?#]/g, ""],
+  segment: ["//h/", /[/?#]/g, ""],
   query: ["?", /#/g, ""],
   fragment: ["#", /$^/g, ""],
 };
@@ -231,6 +240,9 @@ class URIs {
   #strict = new TextDecoder("utf-8", { ignoreBOM: true, fatal: true });
 
   constructor(module, instance) {
+    if (!(OF_THIS_VERSION in instance.exports)) {
+      throw new Error("uriparse.wasm is of another version than uriparse.mjs");
+    }
     this.#module = module;
     this.#start(instance);
     // Calls may be handed on as functions.
@@ -310,8 +322,8 @@ class URIs {
     return written;
   }
 
-  // The string of bytes that are ASCII. Node's decoder returns the empty string for 2 GiB or more.
-  #string(bytes) {
+  // The string of bytes, which are ASCII, or else UTF-8. Node's decoder returns the empty string for 2 GiB or more.
+  #string(bytes, isASCII = true) {
     let string;
     let cause;
     try {
@@ -319,7 +331,7 @@ class URIs {
     } catch (error) {
       cause = error;
     }
-    if (string?.length !== bytes.length) {
+    if (isASCII ? string?.length !== bytes.length : !string && bytes.length > 0) {
       this.#restart();
       throw tooLong(`the result has ${bytes.length} bytes`, cause);
     }
@@ -346,6 +358,11 @@ class URIs {
 
   #word(at) {
     return this.#words[at / 4];
+  }
+
+  // A truth value. A call may move the memory, so its place is known first.
+  #truth(at) {
+    return this.#bytes[at] !== 0;
   }
 
   // A length, which may need both its words.
@@ -436,26 +453,62 @@ class URIs {
 
   /** Whether two references differ at most by percent-encoding and case where these mean nothing. */
   equal(left, right) {
-    left = textOf(left);
-    right = textOf(right);
-    const { spans, next } = this.#put(left, right);
-    const code = this.#calls.uriparse_equal(...spans, BigInt(next));
-    if (code !== 0) {
-      throw this.fault(left) ? this.#error(code, left, "left") : this.#error(code, right, "right");
-    }
-    return this.#bytes[next] !== 0;
+    return this.#truth(this.#ofTwo("uriparse_equal", left, right));
   }
 
   /** -1, 0 or 1: whether the left reference is less than the right one, equal to it or greater, component by component. */
   compare(left, right) {
+    return this.#word(this.#ofTwo("uriparse_compare", left, right)) | 0;
+  }
+
+  /** Whether two references both have an origin and it is one: RFC 6454, section 5. */
+  sameOrigin(left, right) {
+    return this.#truth(this.#ofTwo("uriparse_same_origin", left, right));
+  }
+
+  // The place of what a call writes for two references.
+  #ofTwo(call, left, right) {
     left = textOf(left);
     right = textOf(right);
     const { spans, next } = this.#put(left, right);
-    const code = this.#calls.uriparse_compare(...spans, BigInt(next));
+    const code = this.#calls[call](...spans, BigInt(next));
     if (code !== 0) {
       throw this.fault(left) ? this.#error(code, left, "left") : this.#error(code, right, "right");
     }
-    return this.#word(next) | 0;
+    return next;
+  }
+
+  // The place of what a call writes for a reference.
+  #ofOne(call, text) {
+    text = textOf(text);
+    const { spans, next } = this.#put(text);
+    const code = this.#calls[call](spans[0], spans[1], BigInt(next));
+    if (code !== 0) {
+      throw this.#error(code, text);
+    }
+    return next;
+  }
+
+  /** Whether a reference is its own normal form, as `normalize` writes it. */
+  isNormalized(text) {
+    return this.#truth(this.#ofOne("uriparse_is_normalized", text));
+  }
+
+  /** The port of a reference, or the default port of its scheme, or null, also without an authority. */
+  portOrDefault(text) {
+    const port = this.#word(this.#ofOne("uriparse_port_or_default", text)) | 0;
+    return port < 0 ? null : port;
+  }
+
+  /** Whether readers disagree on what a segment of a path names, as on "..;a" and "a%2fb". */
+  isAmbiguous(segment) {
+    segment = textOf(segment);
+    const { spans, next } = this.#put(segment);
+    const code = this.#calls.uriparse_is_ambiguous(spans[0], spans[1], BigInt(next));
+    if (code !== 0) {
+      throw this.#errorIn("segment", code, segment, "segment");
+    }
+    return this.#bytes[next] !== 0;
   }
 
   /** Whether a URI is below another one, by its normal form. Segments that servers read in different ways are not. */
@@ -487,13 +540,7 @@ class URIs {
 
   /** What the host of a reference may be taken for. */
   hostFlags(text) {
-    text = textOf(text);
-    const { spans, next } = this.#put(text);
-    const code = this.#calls.uriparse_host_flags(spans[0], spans[1], BigInt(next));
-    if (code !== 0) {
-      throw this.#error(code, text);
-    }
-    const flags = this.#word(next);
+    const flags = this.#word(this.#ofOne("uriparse_host_flags", text));
     return { hidesAddress: (flags & HIDES_ADDRESS) !== 0, mayBeNumeric: (flags & MAY_BE_NUMERIC) !== 0, hasEscapes: (flags & HAS_ESCAPES) !== 0 };
   }
 
@@ -505,12 +552,7 @@ class URIs {
 
   /** A hash, as a BigInt: equal references have equal hashes, on every machine. */
   hash(text) {
-    text = textOf(text);
-    const { spans, next } = this.#put(text);
-    const code = this.#calls.uriparse_hash(spans[0], spans[1], BigInt(next));
-    if (code !== 0) {
-      throw this.#error(code, text);
-    }
+    const next = this.#ofOne("uriparse_hash", text);
     return (BigInt(this.#word(next + 4)) << 32n) | BigInt(this.#word(next));
   }
 
@@ -562,12 +604,29 @@ class URIs {
 
   /** The text of the origin of a URI, or null: RFC 6454, section 6.2. A name such as "%31.2.3.4" and the address "1.2.3.4" have one. */
   origin(text) {
+    const bytes = this.#part("uriparse_origin", text, NO_ORIGIN);
+    return bytes && this.#string(bytes);
+  }
+
+  /** The 4 or 16 bytes of the IPv4 or IPv6 address that is the host, or null. */
+  hostAddress(text) {
+    const bytes = this.#part("uriparse_host_address", text, NO_ADDRESS);
+    return bytes && bytes.slice();
+  }
+
+  // The bytes that a call writes of a reference, or null with the code that says that there are none.
+  #part(call, text, none) {
     text = textOf(text);
-    const { code, bytes } = this.#answer("uriparse_origin", [text]);
-    if (code !== 0 && code !== NO_ORIGIN) {
+    const { code, bytes } = this.#answer(call, [text]);
+    if (code !== 0 && code !== none) {
       throw this.#error(code, text);
     }
-    return code === NO_ORIGIN ? null : this.#string(bytes);
+    return code === none ? null : bytes;
+  }
+
+  /** The reference in a text cut out of a page: without white space around it, "<" and ">", and "URL:" in these. */
+  trimLink(text) {
+    return this.#string(this.#answer("uriparse_trim_link", [wellFormed(text)]).bytes, false);
   }
 
   /** The text of a reference with components set, or removed by null. What isn't named stays, byte for byte. */
@@ -582,12 +641,12 @@ class URIs {
       this.#view(out + room);
       const words = this.#words.fill(0, next / 4, needed / 4);
       const note = (name) => next / 4 + REPLACED.indexOf(name) * SPAN;
-      removed.forEach((name) => { words[note(name) + IS_PRESENT] = REMOVE; });
+      removed.forEach((name) => { words[note(name) + ACTION] = REMOVE; });
       set.forEach((name, at) => {
         const begin = Number(spans[2 + 2 * at] - spans[2]);
         words[note(name) + BEGIN] = begin;
         words[note(name) + END] = begin + Number(spans[3 + 2 * at]);
-        words[note(name) + IS_PRESENT] = SET;
+        words[note(name) + ACTION] = SET;
       });
       const end = spans.length > 2 ? spans.at(-2) + spans.at(-1) : spans[0];
       const first = spans[2] ?? spans[0];
@@ -645,6 +704,24 @@ class URIs {
     return this.#strict.decode(this.decode(query.slice(begin, end)));
   }
 
+  /** The decoded values of all pairs of the query with this name, each as `pair` returns it. */
+  pairValues(uri, name) {
+    name = dataOf(name);
+    const { query } = this.parse(uri);
+    const found = [];
+    if (query === null) {
+      return found;
+    }
+    const { spans, next } = this.#put(query, name);
+    const pair = this.#words.subarray(next / 4);
+    let at = 0n;
+    while (this.#calls.uriparse_find_next_pair(spans[0], spans[1], at, spans[2], spans[3], BigInt(next)) & 1) {
+      found.push(query.slice(pair[VALUE + BEGIN], pair[VALUE + END]));
+      at = BigInt(pair[NEXT]);
+    }
+    return found.map((value) => this.#strict.decode(this.decode(value)));
+  }
+
   // The reference with the query that a call writes for it and these data.
   #withPair(call, uri, name, value) {
     const { text, query } = this.parse(uri);
@@ -689,8 +766,17 @@ class URIs {
 
   /** The bytes that the text of a component stands for. */
   decode(text) {
+    return this.#decoded("uriparse_decode", text);
+  }
+
+  /** The same of a name or a value of an HTML form, in which a "+" is a space. */
+  formDecode(text) {
+    return this.#decoded("uriparse_form_decode", text);
+  }
+
+  #decoded(call, text) {
     text = textOf(text);
-    const { code, bytes } = this.#answer("uriparse_decode", [text]);
+    const { code, bytes } = this.#answer(call, [text]);
     if (code !== 0) {
       throw this.#errorIn("query", code, text);
     }

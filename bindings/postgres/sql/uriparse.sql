@@ -6,6 +6,9 @@ SELECT uri_scheme(t), uri_authority(t), uri_username(t), uri_password(t), uri_ho
 SELECT uri_normalize('HTTP://H/%7e/../a'), uri_resolve('http://a/b/c/d;p?q', '../g'), uri_relativize('http://a/b/c', 'http://a/g');
 SELECT uri_origin('HTTPS://u@H:443/a'), uri_host_kind('//[::1]'), uri_host_flags('//%31.2.3.4'), uri_default_port('https');
 SELECT uri_is_within('http://h/app/x', 'http://h/app/'), uri_host_is_within('//www.example.com', 'example.com');
+SELECT uri_same_origin('http://h/a', 'HTTP://H:80'), uri_is_normalized('http://h'), uri_is_ambiguous('..;a'), uri_port_or_default('https://h'),
+  uri_host_inet('//[::1]:80');
+SELECT uri_param_values('?a=1&b&%61=R%26D&a', 'a'), uri_form_decode('a+b'), uri_trim_link(' <URL:http://h/> ');
 SELECT * FROM uri_pairs('?a=1&b=%26&c');
 SELECT uri_param('?q=R%26D', 'q'), uri_with_param('?p=1', 'p', 'a&b'), uri_with_appended_param('?a', 'a', NULL),
   uri_without_params('?utm_id=1&q', 'utm_*'), uri_without_param('?a*&ab', 'a*');

@@ -13,7 +13,7 @@ struct change {
 
 static uint32_t write_change(const void *job, uint8_t *out, size_t room, size_t *needed) {
   const struct change *it = (const struct change *)job;
-  return (uriparse_change)(it->text->bytes, it->text->len, it->changes, it->values, it->len, out, room, needed);
+  return uriparse_change(it->text->bytes, it->text->len, it->changes, it->values, it->len, out, room, needed);
 }
 
 /* The length of the text and the values, with all delimiters and a slash. */
@@ -110,7 +110,7 @@ static size_t value_fault(uint32_t code, size_t at, const struct text *text) {
 static void reject_change(const struct state *state, uint32_t code, const struct text *text, const struct values *values) {
   size_t place = 0;
   size_t at = component_of(code, values);
-  if ((uriparse_first_fault)(text->bytes, text->len, &place)) {
+  if (uriparse_first_fault(text->bytes, text->len, &place)) {
     reject(state, code, text, place, "text");
   } else if (at < COMPONENTS) {
     reject(state, code, &values->texts[at], value_fault(code, at, &values->texts[at]), component_names[1 + at]);
@@ -166,7 +166,7 @@ struct query {
 static bool query_take(const struct state *state, struct query *query, PyObject *source) {
   struct uriparse_parts parts;
   if (!text_take(state, &query->uri, source, OR_URI)) return false;
-  uint32_t code = (uriparse_parse)(query->uri.bytes, query->uri.len, &parts);
+  uint32_t code = uriparse_parse(query->uri.bytes, query->uri.len, &parts);
   if (code) {
     reject_fault(state, code, &query->uri, "text");
     text_release(&query->uri);
@@ -198,8 +198,8 @@ struct edit {
   const struct query *query;
   const struct text *name;
   const struct text *value; /* NULL for none */
-  uint32_t (*call)(const uint8_t *query, size_t len, const uint8_t *name, size_t name_len, const uint8_t *value, size_t value_len,
-                   bool has_value, uint8_t *out, size_t room, size_t *needed);
+  uint32_t (*call)(const void *query, size_t len, const void *name, size_t name_len, const void *value, size_t value_len, bool has_value,
+                   void *out, size_t room, size_t *needed);
 };
 
 static uint32_t write_pair(const void *job, uint8_t *out, size_t room, size_t *needed) {
@@ -253,7 +253,7 @@ static PyObject *with_appended_pair(PyObject *module, PyObject *const *args, Py_
 
 static uint32_t write_dropped(const void *job, uint8_t *out, size_t room, size_t *needed) {
   const struct edit *it = (const struct edit *)job;
-  return (uriparse_drop_pairs)(it->query->bytes, it->query->len, it->name->bytes, it->name->len, out, room, needed);
+  return uriparse_drop_pairs(it->query->bytes, it->query->len, it->name->bytes, it->name->len, out, room, needed);
 }
 
 static PyObject *dropped(const struct state *state, const struct query *query, const struct text *names) {
@@ -300,7 +300,7 @@ struct piece {
 
 static uint32_t write_decoded(const void *job, uint8_t *out, size_t room, size_t *needed) {
   const struct piece *piece = (const struct piece *)job;
-  return (uriparse_decode)(piece->bytes, piece->len, out, room, needed);
+  return uriparse_decode(piece->bytes, piece->len, out, room, needed);
 }
 
 /* The decoded value of the first pair with a name, or None. */
@@ -316,11 +316,43 @@ static PyObject *pair(PyObject *module, PyObject *const *args, Py_ssize_t count,
   PyObject *found = NULL;
   if (!take_arguments("pair", names, 2, args, count, kwnames, sources) || !query_take(state, &query, sources[0])) return NULL;
   if (text_take_value(state, &name, sources[1], query.uri.is_str, URIPARSE_QUERY_BYTE, "name")) {
-    if (!query.is_present || !(uriparse_find_pair)(query.bytes, query.len, name.bytes, name.len, &at)) {
+    if (!query.is_present || !uriparse_find_pair(query.bytes, query.len, name.bytes, name.len, &at)) {
       found = Py_NewRef(Py_None);
     } else {
       struct piece piece = {query.bytes + at.value.begin, at.value.end - at.value.begin};
       if (output_write(&output, write_decoded, &piece, piece.len, &code)) found = output_object(&output, query.uri.is_str);
+    }
+    text_release(&name);
+  }
+  text_release(&query.uri);
+  return found;
+}
+
+/* Appends the decoded value of a pair to a list. Returns whether that is done. */
+static bool append_value(PyObject *list, const struct query *query, const struct uriparse_pair *at) {
+  struct output output;
+  uint32_t code;
+  struct piece piece = {query->bytes + at->value.begin, at->value.end - at->value.begin};
+  PyObject *one = output_write(&output, write_decoded, &piece, piece.len, &code) ? output_object(&output, query->uri.is_str) : NULL;
+  bool is_done = one && !PyList_Append(list, one);
+  Py_XDECREF(one);
+  return is_done;
+}
+
+/* The decoded values of all pairs with a name. */
+static PyObject *pair_values(PyObject *module, PyObject *const *args, Py_ssize_t count, PyObject *kwnames) {
+  static const char *const names[] = {"uri", "name"};
+  const struct state *state = state_of(module);
+  PyObject *sources[2];
+  struct query query;
+  struct text name;
+  struct uriparse_pair at = {.next = 0};
+  PyObject *found = NULL;
+  if (!take_arguments("pair_values", names, 2, args, count, kwnames, sources) || !query_take(state, &query, sources[0])) return NULL;
+  if (text_take_value(state, &name, sources[1], query.uri.is_str, URIPARSE_QUERY_BYTE, "name")) {
+    found = PyList_New(0);
+    while (found && query.is_present && uriparse_find_next_pair(query.bytes, query.len, at.next, name.bytes, name.len, &at)) {
+      if (!append_value(found, &query, &at)) Py_CLEAR(found);
     }
     text_release(&name);
   }
@@ -353,7 +385,7 @@ static PyObject *pairs(PyObject *module, PyObject *const *args, Py_ssize_t count
     Py_DECREF(found);
     return NULL;
   }
-  for (size_t at = 0; found && (uriparse_next_pair)(query.bytes, query.len, at, &pair); at = pair.next) {
+  for (size_t at = 0; found && uriparse_next_pair(query.bytes, query.len, at, &pair); at = pair.next) {
     PyObject *one = pair_object(&query, &pair);
     if (!one || PyList_Append(found, one)) Py_CLEAR(found);
     Py_XDECREF(one);
@@ -370,7 +402,7 @@ struct encoded {
 
 static uint32_t write_encoded(const void *job, uint8_t *out, size_t room, size_t *needed) {
   const struct encoded *it = (const struct encoded *)job;
-  return (uriparse_encode)(it->component, it->data->bytes, it->data->len, out, room, needed);
+  return uriparse_encode(it->component, it->data->bytes, it->data->len, out, room, needed);
 }
 
 /* The number of a component, and data. */
@@ -401,20 +433,28 @@ static PyObject *encode(PyObject *module, PyObject *const *args, Py_ssize_t coun
 }
 
 PyMethodDef edit_methods[] = {
+    /* methods.tsv: methods */
     METHOD("pair", pair,
            "pair($module, /, uri, name)\n--\n\n"
-           "The decoded value of the first pair of the query with this name, or None if there is none. It is empty for a pair without an\n"
-           "`=`. Names are compared by the bytes that they stand for. The value of a str is decoded as UTF-8."),
+           "The decoded value of the first pair of the query with this name, or None if there is none. It is empty for a pair\n"
+           "without an `=`. Names are compared by the bytes that they stand for. The value of a str is decoded as UTF-8."),
+    METHOD("pair_values", pair_values,
+           "pair_values($module, /, uri, name)\n--\n\n"
+           "The decoded values of all pairs of the query with this name, in order, each as `pair` returns it."),
     METHOD("with_pair", with_pair,
            "with_pair($module, /, uri, name, value)\n--\n\n"
-           "The reference with one pair of this name in its query, in place of the first one. The others of the name are left out, and\n"
-           "pairs of other names stay, byte for byte. Name and value are data: `pair` reads them back. With None there is no `=`."),
+           "The reference with one pair of this name in its query, in place of the first one. The others of the name are left out,\n"
+           "and pairs of other names stay, byte for byte. Name and value are data: `pair` reads them back. With None there is no\n"
+           "`=`."),
     METHOD("with_appended_pair", with_appended_pair,
-           "with_appended_pair($module, /, uri, name, value)\n--\n\nThe reference with a pair after all others of its query."),
+           "with_appended_pair($module, /, uri, name, value)\n--\n\n"
+           "The reference with a pair after all others of its query."),
     METHOD("pairs", pairs,
            "pairs($module, /, query)\n--\n\n"
-           "The pairs of a query, in order: the pieces between its `&`, each a name and, after its first `=`, a value or None, as they stand\n"
-           "in the text. `decode` reads each. The empty query has one pair, of an empty name, and None has none. Any text is cut like that."),
+           "The pairs of a query, in order: the pieces between its `&`, each a name and, after its first `=`, a value or None, as\n"
+           "they stand in the text. `decode` reads each. The empty query has one pair, of an empty name, and None has none. Any text\n"
+           "is cut like that."),
+    /* methods.tsv: end */
     METHOD("replace", replace, NULL),
     METHOD("without_pairs", without_pairs, NULL),
     METHOD("encode", encode, NULL),

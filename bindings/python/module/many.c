@@ -229,7 +229,7 @@ static PyObject *parse_all(struct batch *batch, maker *make, size_t which) {
   while (done && (done = batch_fill(batch)) && batch->count) {
     Py_BEGIN_ALLOW_THREADS
     for (size_t at = 0; at < batch->count; at++) {
-      batch->codes[at] = (uriparse_parse)(batch->texts[at].bytes, batch->texts[at].len, &parts[at]);
+      batch->codes[at] = uriparse_parse(batch->texts[at].bytes, batch->texts[at].len, &parts[at]);
     }
     Py_END_ALLOW_THREADS
     for (size_t at = 0; done && at < batch->count; at++) {

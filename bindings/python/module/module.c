@@ -44,6 +44,7 @@ static int state_start(PyObject *module) {
     state->kinds[i] = PyUnicode_InternFromString(kinds[i]);
     if (!state->kinds[i]) return -1;
   }
+  if (PyModule_AddStringConstant(module, "version", uriparse_version())) return -1;
   state->components = Py_NewRef((PyObject *)state->read);
   state->error = Py_NewRef(PyExc_ValueError);
   state->keep = Py_NewRef(Py_Ellipsis);

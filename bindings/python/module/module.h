@@ -69,6 +69,8 @@ size_t text_fault(const uint8_t *bytes, size_t len);
 /* The same of a text that is all of a component other than a scheme. If memory is missing, an exception is set. */
 size_t text_component_fault(enum uriparse_component component, const uint8_t *bytes, size_t len);
 size_t text_query_fault(const uint8_t *bytes, size_t len);
+/* That of a path may have slashes, and this one of a segment none. */
+size_t text_segment_fault(const uint8_t *bytes, size_t len);
 
 /* Raises the error of a text. Returns NULL. */
 PyObject *reject(const struct state *state, uint32_t code, const struct text *text, size_t place, const char *argument);
@@ -103,10 +105,10 @@ PyObject *output_object(struct output *output, bool is_str);
 PyObject *object_of(const uint8_t *bytes, size_t len, bool is_str);
 
 /* The shapes of calls: of one text or two, which write a text, and of two that answer yes or no. */
-typedef uint32_t write_call(const uint8_t *text, size_t len, uint8_t *out, size_t room, size_t *needed);
-typedef uint32_t write_two_call(const uint8_t *left, size_t left_len, const uint8_t *right, size_t right_len, uint8_t *out, size_t room,
+typedef uint32_t write_call(const void *text, size_t len, void *out, size_t room, size_t *needed);
+typedef uint32_t write_two_call(const void *left, size_t left_len, const void *right, size_t right_len, void *out, size_t room,
                                 size_t *needed);
-typedef uint32_t test_two_call(const uint8_t *left, size_t left_len, const uint8_t *right, size_t right_len, bool *answer);
+typedef uint32_t test_two_call(const void *left, size_t left_len, const void *right, size_t right_len, bool *answer);
 
 /* A method that takes arguments by position and by name. */
 #define METHOD(name, function, doc) {name, (PyCFunction)(void (*)(void))(function), METH_FASTCALL | METH_KEYWORDS, doc}

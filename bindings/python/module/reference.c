@@ -72,7 +72,7 @@ static PyObject *reference_read(const struct state *state, PyTypeObject *type, P
   struct text text;
   struct uriparse_parts parts;
   if (!text_take(state, &text, source, PLAIN)) return NULL;
-  uint32_t code = (uriparse_parse)(text.bytes, text.len, &parts);
+  uint32_t code = uriparse_parse(text.bytes, text.len, &parts);
   PyObject *made = code ? reject_fault(state, code, &text, "text") : reference_new(state, type, &text, &parts);
   text_release(&text);
   return made;
@@ -131,7 +131,7 @@ static Py_hash_t hash_reference(PyObject *object) {
   struct reference *self = (struct reference *)object;
   if (self->hash == -1) {
     uint64_t found = 0;
-    (uriparse_hash)(self->bytes, self->len, &found);
+    uriparse_hash(self->bytes, self->len, &found);
     self->hash = (Py_hash_t)found == -1 ? -2 : (Py_hash_t)found;
   }
   return self->hash;
@@ -143,7 +143,7 @@ static bool are_equal(PyObject *left, PyObject *right) {
   bool equal = false;
   if (a->text == b->text || (a->len == b->len && !memcmp(a->bytes, b->bytes, a->len))) return true;
   if (hash_reference(left) != hash_reference(right)) return false;
-  (uriparse_equal)(a->bytes, a->len, b->bytes, b->len, &equal);
+  uriparse_equal(a->bytes, a->len, b->bytes, b->len, &equal);
   return equal;
 }
 
@@ -152,7 +152,7 @@ static PyObject *compare_references(PyObject *left, PyObject *right, int operato
   int32_t order = 0;
   if (!PyObject_TypeCheck(right, a->state->compared)) Py_RETURN_NOTIMPLEMENTED;
   if (operator == Py_EQ || operator == Py_NE) return PyBool_FromLong(are_equal(left, right) == (operator == Py_EQ));
-  (uriparse_compare)(a->bytes, a->len, b->bytes, b->len, &order);
+  uriparse_compare(a->bytes, a->len, b->bytes, b->len, &order);
   Py_RETURN_RICHCOMPARE(order, 0, operator);
 }
 

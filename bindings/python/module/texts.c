@@ -149,7 +149,7 @@ PyObject *text_copy(const struct text *text) {
 
 size_t text_fault(const uint8_t *bytes, size_t len) {
   size_t place = 0;
-  (uriparse_first_fault)(bytes, len, &place);
+  uriparse_first_fault(bytes, len, &place);
   return place;
 }
 
@@ -171,12 +171,9 @@ static void copy_without_ends(uint8_t *out, const uint8_t *bytes, size_t len, co
   }
 }
 
-size_t text_component_fault(enum uriparse_component component, const uint8_t *bytes, size_t len) {
-  static const struct frame frames[] = {{"//", "@h", "/?#@:"}, {"//:", "@h", "/?#@"}, {"//", "", "/?#@:"}, {"//h:", "", "/?#@:[]"},
-                                        {"//h/", "", "?#"},     {"?", "", "#"},        {"#", "", "#"}};
-  const struct frame *frame = &frames[(component >> 4) - 1];
-  bool is_absolute = component == URIPARSE_SEGMENT && len && bytes[0] == '/';
-  size_t before = strlen(frame->before) - is_absolute, after = strlen(frame->after), place = before;
+/* Where a text is wrong in a frame, of which so many bytes precede it. */
+static size_t fault_in(const struct frame *frame, size_t before, const uint8_t *bytes, size_t len) {
+  size_t after = strlen(frame->after), place = before;
   uint8_t *whole = (uint8_t *)PyMem_Malloc(before + len + after);
   if (!whole) {
     PyErr_NoMemory();
@@ -185,9 +182,22 @@ size_t text_component_fault(enum uriparse_component component, const uint8_t *by
   memcpy(whole, frame->before, before);
   copy_without_ends(whole + before, bytes, len, frame->ends);
   memcpy(whole + before + len, frame->after, after);
-  (uriparse_first_fault)(whole, before + len + after, &place);
+  uriparse_first_fault(whole, before + len + after, &place);
   PyMem_Free(whole);
   return place > before ? place - before : 0;
+}
+
+size_t text_component_fault(enum uriparse_component component, const uint8_t *bytes, size_t len) {
+  static const struct frame frames[] = {{"//", "@h", "/?#@:"}, {"//:", "@h", "/?#@"}, {"//", "", "/?#@:"}, {"//h:", "", "/?#@:[]"},
+                                        {"//h/", "", "?#"},     {"?", "", "#"},        {"#", "", "#"}};
+  const struct frame *frame = &frames[(component >> 4) - 1];
+  bool is_absolute = component == URIPARSE_SEGMENT && len && bytes[0] == '/';
+  return fault_in(frame, strlen(frame->before) - is_absolute, bytes, len);
+}
+
+size_t text_segment_fault(const uint8_t *bytes, size_t len) {
+  static const struct frame frame = {"//h/", "", "/?#"};
+  return fault_in(&frame, strlen(frame.before), bytes, len);
 }
 
 size_t text_query_fault(const uint8_t *bytes, size_t len) { return text_component_fault(URIPARSE_QUERY, bytes, len); }

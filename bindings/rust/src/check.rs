@@ -1,10 +1,12 @@
-//! The order of references, whether one is below another, and what hosts may be taken for.
+//! The order of references, whether one is below another or has its origin, and what hosts and segments may be taken for.
 
 use crate::error::Error;
 #[cfg(feature = "alloc")]
 use crate::owned::{UriBuf, UriRefBuf};
 use crate::reference::{Uri, UriRef};
 use crate::sys;
+#[cfg(feature = "std")]
+use crate::sys::Write;
 use core::cmp::Ordering;
 
 /// The first component that differs decides, in the order scheme, authority, path, query, fragment, each in the spelling by which `==`
@@ -71,8 +73,8 @@ impl PartialOrd for UriBuf {
     }
 }
 
-/// What is asked of the host, for a type that has `as_str`.
-macro_rules! host_checks {
+/// What is asked of a reference and its host, for a type that has `as_str`.
+macro_rules! checks {
     ($name:ty) => {
         impl $name {
             /// Whether the host is the domain or a name within it: the labels, which dots separate, end with all labels of the domain. Names are
@@ -93,6 +95,51 @@ macro_rules! host_checks {
             pub fn host_is_within(&self, domain: &str) -> Result<bool, $crate::Error> {
                 $crate::sys::host_is_within(self.as_str().as_bytes(), domain.as_bytes())
                     .map_err(|code| $crate::check::domain_error(code, domain.as_bytes()))
+            }
+
+            /// The IPv4 or IPv6 address that is the host. A name isn't looked up, and one that may be taken for an address has none.
+            ///
+            /// ```
+            /// use std::net::{IpAddr, Ipv6Addr};
+            /// use uriparse_rattle::UriRef;
+            ///
+            /// assert_eq!(UriRef::parse("http://[::1]/")?.host_address(), Some(IpAddr::V6(Ipv6Addr::LOCALHOST)));
+            /// assert_eq!(UriRef::parse("http://127.1/")?.host_address(), None);
+            /// # Ok::<(), uriparse_rattle::Error>(())
+            /// ```
+            #[cfg(feature = "std")]
+            #[must_use]
+            pub fn host_address(&self) -> Option<std::net::IpAddr> {
+                $crate::check::address_of(self.as_str().as_bytes())
+            }
+
+            /// The port, or the default port of the scheme. Without an authority there is none.
+            ///
+            /// ```
+            /// use uriparse_rattle::UriRef;
+            ///
+            /// assert_eq!(UriRef::parse("https://example.com/")?.port_or_default(), Some(443));
+            /// assert_eq!(UriRef::parse("//example.com/")?.port_or_default(), None);
+            /// # Ok::<(), uriparse_rattle::Error>(())
+            /// ```
+            #[must_use]
+            pub fn port_or_default(&self) -> Option<u16> {
+                let port = $crate::sys::port_or_default(self.as_str().as_bytes());
+                core::convert::TryFrom::try_from(port).ok()
+            }
+
+            /// Whether the string is that of its normal form.
+            ///
+            /// ```
+            /// use uriparse_rattle::UriRef;
+            ///
+            /// assert!(UriRef::parse("http://h/~")?.is_normalized());
+            /// assert!(!UriRef::parse("http://h/%7e")?.is_normalized());
+            /// # Ok::<(), uriparse_rattle::Error>(())
+            /// ```
+            #[must_use]
+            pub fn is_normalized(&self) -> bool {
+                $crate::sys::is_normalized(self.as_str().as_bytes())
             }
 
             /// Whether the host is a name whose canonical spelling is that of an IPv4 address, as `%31.2.3.4`.
@@ -133,12 +180,51 @@ macro_rules! host_checks {
     };
 }
 
-host_checks!(UriRef<'_>);
-host_checks!(Uri<'_>);
+checks!(UriRef<'_>);
+checks!(Uri<'_>);
 #[cfg(feature = "alloc")]
-host_checks!(UriRefBuf);
+checks!(UriRefBuf);
 #[cfg(feature = "alloc")]
-host_checks!(UriBuf);
+checks!(UriBuf);
+
+/// The address that is the host of a reference.
+#[cfg(feature = "std")]
+fn address_of(text: &[u8]) -> Option<std::net::IpAddr> {
+    let mut bytes = [0; 16];
+    match Write::Address(text).into_slice(&mut bytes) {
+        Ok(4) => Some([bytes[0], bytes[1], bytes[2], bytes[3]].into()),
+        Ok(_) => Some(bytes.into()),
+        Err(_) => None,
+    }
+}
+
+/// Whether readers disagree on what a segment of a path names: it has an escaped `/`, `\`, `%` or zero byte, or is `.` or `..` followed by
+/// `;` or by an escaped `;`, `?` or `#`.
+///
+/// # Errors
+///
+/// A string that is no segment, as one with a `/`, has the error of a path.
+///
+/// ```
+/// use uriparse_rattle::is_ambiguous;
+///
+/// assert!(is_ambiguous("..;a")? && is_ambiguous("a%2fb")?);
+/// assert!(!is_ambiguous("..")?);
+/// # Ok::<(), uriparse_rattle::Error>(())
+/// ```
+pub fn is_ambiguous(segment: &str) -> Result<bool, Error> {
+    let segment = segment.as_bytes();
+    sys::is_ambiguous(segment).map_err(|code| Error::at(code, segment_fault(segment)))
+}
+
+/// Where a segment is wrong: at the first byte, or `%` and what follows it, that alone is no segment.
+fn segment_fault(segment: &[u8]) -> Option<usize> {
+    let is_wrong = |at: &usize| {
+        let len = if segment[*at] == b'%' { 3 } else { 1 };
+        sys::is_ambiguous(&segment[*at..segment.len().min(at + len)]).is_err()
+    };
+    (0..segment.len()).find(is_wrong)
+}
 
 /// The error of a domain that isn't a host.
 pub(crate) fn domain_error(code: u32, domain: &[u8]) -> Error {
@@ -155,8 +241,8 @@ pub(crate) fn host_fault(code: u32, host: &[u8]) -> Option<usize> {
     let is_wrong = |at: usize| match code {
         sys::HOST_BYTE if host[at] == b'%' => rejects(&host[at..host.len().min(at + 3)]),
         sys::HOST_BYTE => rejects(&[host[at]]),
-        sys::IPV6_BYTE => at > 0 && rejects(&[b'[', b':', host[at], b']']),
-        sys::FUTURE_BYTE => at > 1 && rejects(&[b'[', b'v', b'1', b'.', host[at], b']']),
+        sys::HOST_IPV6_BYTE => at > 0 && rejects(&[b'[', b':', host[at], b']']),
+        sys::HOST_FUTURE_BYTE => at > 1 && rejects(&[b'[', b'v', b'1', b'.', host[at], b']']),
         _ => true,
     };
     (0..host.len()).find(|&at| is_wrong(at))
@@ -182,6 +268,22 @@ impl Uri<'_> {
     pub fn is_within(&self, base: &Uri<'_>) -> bool {
         sys::is_within(self.as_str().as_bytes(), base.as_str().as_bytes())
     }
+
+    /// Whether both have an origin and it is one (RFC 6454, section 5). A name such as `%31.2.3.4` and the address `1.2.3.4` are different
+    /// hosts, although the texts of their origins are equal.
+    ///
+    /// ```
+    /// use uriparse_rattle::Uri;
+    ///
+    /// let uri = Uri::parse("HTTPS://u@h:443/a")?;
+    /// assert!(uri.same_origin(&Uri::parse("https://h/b")?));
+    /// assert!(!uri.same_origin(&Uri::parse("http://h/b")?));
+    /// # Ok::<(), uriparse_rattle::Error>(())
+    /// ```
+    #[must_use]
+    pub fn same_origin(&self, other: &Uri<'_>) -> bool {
+        sys::same_origin(self.as_str().as_bytes(), other.as_str().as_bytes())
+    }
 }
 
 #[cfg(feature = "alloc")]
@@ -190,6 +292,12 @@ impl UriBuf {
     #[must_use]
     pub fn is_within(&self, base: &Uri<'_>) -> bool {
         self.as_uri().is_within(base)
+    }
+
+    /// Whether both have an origin and it is one: see [`Uri::same_origin`].
+    #[must_use]
+    pub fn same_origin(&self, other: &Uri<'_>) -> bool {
+        self.as_uri().same_origin(other)
     }
 }
 

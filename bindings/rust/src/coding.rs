@@ -60,6 +60,23 @@ pub fn decode(component: &str) -> Result<Vec<u8>, Error> {
     decoded.map_err(|code| faulty_query(code, component))
 }
 
+/// The bytes that a name or a value of an HTML form stands for: as [`decode`] reads it, and a `+` is a space.
+///
+/// ```
+/// use uriparse_rattle::form_decode;
+///
+/// assert_eq!(form_decode("R+%2B")?, b"R +");
+/// # Ok::<(), uriparse_rattle::Error>(())
+/// ```
+///
+/// # Errors
+///
+/// As for [`decode`].
+pub fn form_decode(text: &str) -> Result<Vec<u8>, Error> {
+    let decoded = Write::FormDecoded(text.as_bytes()).into_vec();
+    decoded.map_err(|code| faulty_query(code, text))
+}
+
 /// The error of a string that isn't a query.
 pub(crate) fn faulty_query(code: u32, text: &str) -> Error {
     Error::at(code, fault_in(Component::Query, code, text))
@@ -102,4 +119,17 @@ const SCHEME_LETTER: u32 = 0x82;
 #[must_use]
 pub fn escape(text: &str) -> String {
     written(Write::Escaped(text.as_bytes())).expect("any string can be escaped")
+}
+
+/// The reference in a string that was cut out of a page or a letter (RFC 3986, appendix C): the string without the white space at its ends,
+/// a pair of angle brackets, the white space in these, and the prefix `URL:` there. Any string is accepted.
+///
+/// ```
+/// use uriparse_rattle::trim_link;
+///
+/// assert_eq!(trim_link(" <URL: http://h/>\n"), "http://h/");
+/// ```
+#[must_use]
+pub fn trim_link(text: &str) -> String {
+    written(Write::Trimmed(text.as_bytes())).expect("any string can be trimmed")
 }

@@ -142,6 +142,29 @@ impl UriRef<'_> {
         decode(pair.value.of(query).unwrap_or("")).ok()
     }
 
+    /// The decoded values of all pairs of the query with this name, in order, each as [`pair`](Self::pair) returns it.
+    ///
+    /// ```
+    /// use uriparse_rattle::UriRef;
+    ///
+    /// let reference = UriRef::parse("?a=1&b&%61=%26&a")?;
+    /// assert_eq!(reference.pair_values("a"), [&b"1"[..], b"&", b""]);
+    /// # Ok::<(), uriparse_rattle::Error>(())
+    /// ```
+    #[must_use]
+    pub fn pair_values(&self, name: &str) -> Vec<Vec<u8>> {
+        let (mut values, mut at) = (Vec::new(), 0);
+        let query = match self.query() {
+            Some(query) => query,
+            None => return values,
+        };
+        while let Some(pair) = sys::find_next_pair(query.as_bytes(), at, name.as_bytes()) {
+            at = pair.next;
+            values.extend(decode(pair.value.of(query).unwrap_or("")));
+        }
+        values
+    }
+
     /// The reference with one pair of this name in its query, in place of the first one; the others of the name are left out. Name and
     /// value are data: [`pair`](Self::pair) reads them back. With `None` there is no `=`. Other pairs keep their bytes.
     ///
@@ -238,6 +261,12 @@ impl Uri<'_> {
         self.as_uri_ref().pair(name)
     }
 
+    /// The decoded values of all pairs of this name: see [`UriRef::pair_values`].
+    #[must_use]
+    pub fn pair_values(&self, name: &str) -> Vec<Vec<u8>> {
+        self.as_uri_ref().pair_values(name)
+    }
+
     /// The URI with one pair of this name: see [`UriRef::with_pair`].
     #[must_use]
     pub fn with_pair(&self, name: &str, value: Option<&str>) -> UriBuf {
@@ -283,6 +312,12 @@ macro_rules! edits {
             #[must_use]
             pub fn pair(&self, name: &str) -> Option<Vec<u8>> {
                 self.$view().pair(name)
+            }
+
+            /// The decoded values of all pairs of this name: see [`UriRef::pair_values`].
+            #[must_use]
+            pub fn pair_values(&self, name: &str) -> Vec<Vec<u8>> {
+                self.$view().pair_values(name)
             }
 
             /// The same with one pair of this name: see [`UriRef::with_pair`].

@@ -29,9 +29,10 @@ pub enum Component {
 #[derive(Clone, Copy, Debug, PartialEq, Eq, Hash)]
 #[non_exhaustive]
 pub enum ErrorKind {
-    /// There is no scheme where a URI is expected.
+    // codes.tsv: kinds
+    /// There is no scheme where a URI is expected, also in `1:2`.
     NotUri,
-    /// Without a scheme, a colon precedes the first slash of the path: `1:2`.
+    /// Without a scheme, a colon precedes the path's first slash: `1:2`.
     SchemelessPathStartsWithColonSegment,
     /// A path has more than 1,000,000 segments: that of the string, or that of a target.
     ExceededMaximumPathLength,
@@ -39,16 +40,10 @@ pub enum ErrorKind {
     AbsolutePathStartsWithTwoSlashes,
     /// A change sets a user name, a password or a port of a reference without a host.
     MissingHost,
-    /// The names of pairs are no query.
+    /// The names of pairs are not a query.
     InvalidNames,
     /// A colon in a user name that is set.
     UsernameContainsColon,
-    /// A scheme that is set is empty.
-    SchemeIsEmpty,
-    /// A byte that no scheme has.
-    InvalidSchemeCharacter,
-    /// The first byte of a scheme that is set is no letter.
-    SchemeStartsWithNonAlphabetic,
     /// A byte that no user name has.
     InvalidUsernameCharacter,
     /// A `%` in the user name that two hexadecimal digits don't follow.
@@ -83,42 +78,51 @@ pub enum ErrorKind {
     InvalidFragmentCharacter,
     /// A `%` in the fragment that two hexadecimal digits don't follow.
     InvalidFragmentPercentEncoding,
+    /// A scheme that is set is empty.
+    SchemeIsEmpty,
+    /// A byte that no scheme has.
+    InvalidSchemeCharacter,
+    /// The first byte of a scheme that is set is no letter.
+    SchemeStartsWithNonAlphabetic,
+    // codes.tsv: end
     /// A code of `uriparse.h` that this version of the crate doesn't know.
     Unknown(u32),
 }
 
-/// The code of each kind in `uriparse.h`, and its words.
+/// The code of each kind in `uriparse.h`, its component and its words.
 #[rustfmt::skip]
-const KINDS: [(u32, ErrorKind, &str); 27] = {
+const KINDS: &[(u32, ErrorKind, Component, &str)] = {
     use ErrorKind::*;
-    [
-        (0x03, NotUri, "not URI"),
-        (0x04, SchemelessPathStartsWithColonSegment, "schemeless path URI reference starts with colon segment"),
-        (0x05, ExceededMaximumPathLength, "exceeded maximum path length"),
-        (0x06, AbsolutePathStartsWithTwoSlashes, "absolute path URI reference starts with two slashes"),
-        (0x0b, MissingHost, "user name, password or port without a host"),
-        (0x0d, InvalidNames, "invalid names of pairs"),
-        (0x10, UsernameContainsColon, "username contains a colon character"),
-        (0x80, SchemeIsEmpty, "scheme is empty"),
-        (0x81, InvalidSchemeCharacter, "invalid scheme character"),
-        (0x82, SchemeStartsWithNonAlphabetic, "scheme starts with non-alphabetic character"),
-        (0x11, InvalidUsernameCharacter, "invalid username character"),
-        (0x12, InvalidUsernamePercentEncoding, "invalid username percent encoding"),
-        (0x21, InvalidPasswordCharacter, "invalid password character"),
-        (0x22, InvalidPasswordPercentEncoding, "invalid password percent encoding"),
-        (0x31, InvalidHostCharacter, "invalid host IPv4 or registered name character"),
-        (0x32, InvalidIpv6Character, "invalid host IPv6 character"),
-        (0x33, InvalidIpv6Format, "invalid host IPv6 format"),
-        (0x34, InvalidIpvFutureCharacter, "invalid host IPvFuture character"),
-        (0x35, InvalidIpvFutureFormat, "invalid host IPvFuture format"),
-        (0x41, InvalidPortCharacter, "invalid port character"),
-        (0x42, PortOverflow, "port overflow"),
-        (0x51, InvalidPathCharacter, "invalid path character"),
-        (0x52, InvalidPathPercentEncoding, "invalid path percent encoding"),
-        (0x61, InvalidQueryCharacter, "invalid query character"),
-        (0x62, InvalidQueryPercentEncoding, "invalid query percent encoding"),
-        (0x71, InvalidFragmentCharacter, "invalid fragment character"),
-        (0x72, InvalidFragmentPercentEncoding, "invalid fragment percent encoding"),
+    &[
+        // codes.tsv: words
+        (0x03, NotUri, Component::Scheme, "not URI"),
+        (0x04, SchemelessPathStartsWithColonSegment, Component::Path, "schemeless path URI reference starts with colon segment"),
+        (0x05, ExceededMaximumPathLength, Component::Path, "exceeded maximum path length"),
+        (0x06, AbsolutePathStartsWithTwoSlashes, Component::Path, "absolute path URI reference starts with two slashes"),
+        (0x0b, MissingHost, Component::Host, "user name, password or port without a host"),
+        (0x0d, InvalidNames, Component::Query, "invalid names of pairs"),
+        (0x10, UsernameContainsColon, Component::Username, "username contains a colon character"),
+        (0x11, InvalidUsernameCharacter, Component::Username, "invalid username character"),
+        (0x12, InvalidUsernamePercentEncoding, Component::Username, "invalid username percent encoding"),
+        (0x21, InvalidPasswordCharacter, Component::Password, "invalid password character"),
+        (0x22, InvalidPasswordPercentEncoding, Component::Password, "invalid password percent encoding"),
+        (0x31, InvalidHostCharacter, Component::Host, "invalid host IPv4 or registered name character"),
+        (0x32, InvalidIpv6Character, Component::Host, "invalid host IPv6 character"),
+        (0x33, InvalidIpv6Format, Component::Host, "invalid host IPv6 format"),
+        (0x34, InvalidIpvFutureCharacter, Component::Host, "invalid host IPvFuture character"),
+        (0x35, InvalidIpvFutureFormat, Component::Host, "invalid host IPvFuture format"),
+        (0x41, InvalidPortCharacter, Component::Port, "invalid port character"),
+        (0x42, PortOverflow, Component::Port, "port overflow"),
+        (0x51, InvalidPathCharacter, Component::Path, "invalid path character"),
+        (0x52, InvalidPathPercentEncoding, Component::Path, "invalid path percent encoding"),
+        (0x61, InvalidQueryCharacter, Component::Query, "invalid query character"),
+        (0x62, InvalidQueryPercentEncoding, Component::Query, "invalid query percent encoding"),
+        (0x71, InvalidFragmentCharacter, Component::Fragment, "invalid fragment character"),
+        (0x72, InvalidFragmentPercentEncoding, Component::Fragment, "invalid fragment percent encoding"),
+        (0x80, SchemeIsEmpty, Component::Scheme, "scheme is empty"),
+        (0x81, InvalidSchemeCharacter, Component::Scheme, "invalid scheme character"),
+        (0x82, SchemeStartsWithNonAlphabetic, Component::Scheme, "scheme starts with non-alphabetic character"),
+        // codes.tsv: end
     ]
 };
 
@@ -146,14 +150,8 @@ impl ErrorKind {
     /// host that a change needs.
     #[must_use]
     pub fn component(self) -> Option<Component> {
-        match self {
-            Self::NotUri => return Some(Component::Scheme),
-            Self::MissingHost => return Some(Component::Host),
-            Self::InvalidNames => return Some(Component::Query),
-            Self::SchemelessPathStartsWithColonSegment
-            | Self::ExceededMaximumPathLength
-            | Self::AbsolutePathStartsWithTwoSlashes => return Some(Component::Path),
-            _ => {}
+        if let Some(kind) = KINDS.iter().find(|kind| kind.1 == self) {
+            return Some(kind.2);
         }
         match self.code() & 0xf0 {
             0x10 => Some(Component::Username),
@@ -172,7 +170,7 @@ impl ErrorKind {
 impl fmt::Display for ErrorKind {
     fn fmt(&self, f: &mut fmt::Formatter<'_>) -> fmt::Result {
         match KINDS.iter().find(|kind| kind.1 == *self) {
-            Some((_, _, words)) => f.pad(words),
+            Some((_, _, _, words)) => f.pad(words),
             None => write!(f, "error {:#x}", self.code()),
         }
     }

@@ -27,9 +27,9 @@ mod reference;
 #[allow(unsafe_code)]
 mod sys;
 
-pub use check::default_port;
+pub use check::{default_port, is_ambiguous};
 #[cfg(feature = "alloc")]
-pub use coding::{decode, encode, escape, Encoding};
+pub use coding::{decode, encode, escape, form_decode, trim_link, Encoding};
 #[cfg(feature = "alloc")]
 pub use edit::{Change, Changes};
 pub use error::{BufferError, Component, Error, ErrorKind};

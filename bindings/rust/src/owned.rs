@@ -43,7 +43,7 @@ pub struct UriBuf(UriRefBuf);
 /// The string that a call writes.
 pub(crate) fn written(write: Write<'_>) -> Result<String, u32> {
     let bytes = write.into_vec()?;
-    Ok(String::from_utf8(bytes).expect("what is written is ASCII"))
+    Ok(String::from_utf8(bytes).expect("what is written is UTF-8"))
 }
 
 /// The reference that a call writes, or the error of its code.

@@ -6,7 +6,7 @@ use core::iter::FusedIterator;
 /// The pairs of a query, in order: a name and, after its first `=`, a value.
 ///
 /// The pairs are the pieces between the `&`, as they stand in the query: [`decode`](crate::decode) reads each, and leaves a `+` as it
-/// is. A query that is present has a pair at least: that of an empty piece has an empty name and no value.
+/// is; [`form_decode`](crate::form_decode) reads those of an HTML form. A query that is present has a pair at least: that of an empty piece has an empty name and no value.
 ///
 /// ```
 /// use uriparse_rattle::Pairs;

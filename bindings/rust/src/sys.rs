@@ -12,8 +12,8 @@ pub(crate) const NO_ROOM: u32 = 2;
 #[cfg(feature = "alloc")]
 pub(crate) const NO_PAIRS: u32 = 14;
 pub(crate) const HOST_BYTE: u32 = 0x31;
-pub(crate) const IPV6_BYTE: u32 = 0x32;
-pub(crate) const FUTURE_BYTE: u32 = 0x34;
+pub(crate) const HOST_IPV6_BYTE: u32 = 0x32;
+pub(crate) const HOST_FUTURE_BYTE: u32 = 0x34;
 pub(crate) const IN_BASE: u32 = 0x100;
 
 /// `struct uriparse_span`: where a component is.
@@ -59,7 +59,6 @@ pub(crate) struct Pair {
 }
 
 /// `struct uriparse_value`: what becomes of a component. By default it is kept.
-#[cfg(feature = "alloc")]
 #[repr(C)]
 #[derive(Clone, Copy, Default)]
 pub(crate) struct Value {
@@ -87,19 +86,61 @@ impl Value {
 }
 
 /// `struct uriparse_changes`: scheme, user name, password, host, port, path, query and fragment.
-#[cfg(feature = "alloc")]
 pub(crate) type Values = [Value; 8];
 
+#[allow(dead_code)]
 extern "C" {
+    // calls.tsv: calls
     fn uriparse_parse(text: *const u8, len: usize, parts: *mut Parts) -> u32;
     fn uriparse_first_fault(text: *const u8, len: usize, place: *mut usize) -> u32;
+    fn uriparse_is_uri(text: *const u8, len: usize) -> bool;
     fn uriparse_equal(
         left: *const u8,
         left_len: usize,
         right: *const u8,
         right_len: usize,
-        equal: *mut u8,
+        equal: *mut bool,
     ) -> u32;
+    fn uriparse_compare(
+        left: *const u8,
+        left_len: usize,
+        right: *const u8,
+        right_len: usize,
+        order: *mut i32,
+    ) -> u32;
+    fn uriparse_same_origin(
+        left: *const u8,
+        left_len: usize,
+        right: *const u8,
+        right_len: usize,
+        same: *mut bool,
+    ) -> u32;
+    fn uriparse_is_normalized(text: *const u8, len: usize, normalized: *mut bool) -> u32;
+    fn uriparse_is_within(
+        text: *const u8,
+        len: usize,
+        base: *const u8,
+        base_len: usize,
+        within: *mut bool,
+    ) -> u32;
+    fn uriparse_host_is_within(
+        text: *const u8,
+        len: usize,
+        domain: *const u8,
+        domain_len: usize,
+        within: *mut bool,
+    ) -> u32;
+    fn uriparse_host_flags(text: *const u8, len: usize, flags: *mut u32) -> u32;
+    fn uriparse_is_ambiguous(segment: *const u8, len: usize, ambiguous: *mut bool) -> u32;
+    fn uriparse_port_or_default(text: *const u8, len: usize, port: *mut i32) -> u32;
+    fn uriparse_host_address(
+        text: *const u8,
+        len: usize,
+        out: *mut u8,
+        room: usize,
+        needed: *mut usize,
+    ) -> u32;
+    fn uriparse_default_port(scheme: *const u8, len: usize) -> u32;
     fn uriparse_hash(text: *const u8, len: usize, hash: *mut u64) -> u32;
     fn uriparse_normalize(
         text: *const u8,
@@ -126,57 +167,7 @@ extern "C" {
         room: usize,
         needed: *mut usize,
     ) -> u32;
-    fn uriparse_next_pair(query: *const u8, len: usize, at: usize, pair: *mut Pair) -> bool;
-    fn uriparse_compare(
-        left: *const u8,
-        left_len: usize,
-        right: *const u8,
-        right_len: usize,
-        order: *mut i32,
-    ) -> u32;
-    fn uriparse_is_within(
-        text: *const u8,
-        len: usize,
-        base: *const u8,
-        base_len: usize,
-        within: *mut u8,
-    ) -> u32;
-    fn uriparse_host_is_within(
-        text: *const u8,
-        len: usize,
-        domain: *const u8,
-        domain_len: usize,
-        within: *mut u8,
-    ) -> u32;
-    fn uriparse_host_flags(text: *const u8, len: usize, flags: *mut u32) -> u32;
-    fn uriparse_default_port(scheme: *const u8, len: usize) -> u32;
-}
-
-#[cfg(feature = "alloc")]
-extern "C" {
     fn uriparse_origin(
-        text: *const u8,
-        len: usize,
-        out: *mut u8,
-        room: usize,
-        needed: *mut usize,
-    ) -> u32;
-    fn uriparse_decode(
-        text: *const u8,
-        len: usize,
-        out: *mut u8,
-        room: usize,
-        needed: *mut usize,
-    ) -> u32;
-    fn uriparse_encode(
-        component: u32,
-        bytes: *const u8,
-        len: usize,
-        out: *mut u8,
-        room: usize,
-        needed: *mut usize,
-    ) -> u32;
-    fn uriparse_escape(
         text: *const u8,
         len: usize,
         out: *mut u8,
@@ -193,9 +184,18 @@ extern "C" {
         room: usize,
         needed: *mut usize,
     ) -> u32;
+    fn uriparse_next_pair(query: *const u8, len: usize, at: usize, pair: *mut Pair) -> bool;
     fn uriparse_find_pair(
         query: *const u8,
         len: usize,
+        name: *const u8,
+        name_len: usize,
+        pair: *mut Pair,
+    ) -> bool;
+    fn uriparse_find_next_pair(
+        query: *const u8,
+        len: usize,
+        at: usize,
         name: *const u8,
         name_len: usize,
         pair: *mut Pair,
@@ -233,6 +233,43 @@ extern "C" {
         room: usize,
         needed: *mut usize,
     ) -> u32;
+    fn uriparse_decode(
+        text: *const u8,
+        len: usize,
+        out: *mut u8,
+        room: usize,
+        needed: *mut usize,
+    ) -> u32;
+    fn uriparse_form_decode(
+        text: *const u8,
+        len: usize,
+        out: *mut u8,
+        room: usize,
+        needed: *mut usize,
+    ) -> u32;
+    fn uriparse_encode(
+        component: u32,
+        bytes: *const u8,
+        len: usize,
+        out: *mut u8,
+        room: usize,
+        needed: *mut usize,
+    ) -> u32;
+    fn uriparse_escape(
+        text: *const u8,
+        len: usize,
+        out: *mut u8,
+        room: usize,
+        needed: *mut usize,
+    ) -> u32;
+    fn uriparse_trim_link(
+        text: *const u8,
+        len: usize,
+        out: *mut u8,
+        room: usize,
+        needed: *mut usize,
+    ) -> u32;
+    // calls.tsv: end
 }
 
 /// Where the components of a reference are, or the code of its error.
@@ -257,7 +294,7 @@ pub(crate) fn first_fault(text: &[u8]) -> Option<(u32, usize)> {
 
 /// Whether both texts are references, and equal.
 pub(crate) fn equal(left: &[u8], right: &[u8]) -> bool {
-    let mut equal = 0;
+    let mut equal = false;
     // SAFETY: both slices are texts, and `equal` is writable.
     let code = unsafe {
         uriparse_equal(
@@ -268,7 +305,31 @@ pub(crate) fn equal(left: &[u8], right: &[u8]) -> bool {
             &mut equal,
         )
     };
-    code == OK && equal != 0
+    code == OK && equal
+}
+
+/// Whether both texts are references that have an origin, and it is one.
+pub(crate) fn same_origin(left: &[u8], right: &[u8]) -> bool {
+    let mut same = false;
+    // SAFETY: both slices are texts, and `same` is writable.
+    let code = unsafe {
+        uriparse_same_origin(
+            left.as_ptr(),
+            left.len(),
+            right.as_ptr(),
+            right.len(),
+            &mut same,
+        )
+    };
+    code == OK && same
+}
+
+/// Whether a text is a reference, and its own normal form.
+pub(crate) fn is_normalized(text: &[u8]) -> bool {
+    let mut normalized = false;
+    // SAFETY: the slice is a text, and `normalized` is writable.
+    let code = unsafe { uriparse_is_normalized(text.as_ptr(), text.len(), &mut normalized) };
+    code == OK && normalized
 }
 
 /// The hash of a reference, or 0 for another text.
@@ -303,6 +364,24 @@ pub(crate) fn find_pair(query: &[u8], name: &[u8]) -> Option<Pair> {
     is_found.then_some(pair)
 }
 
+/// The first pair of a query with this name that begins at this place or later, if there is one.
+#[cfg(feature = "alloc")]
+pub(crate) fn find_next_pair(query: &[u8], at: usize, name: &[u8]) -> Option<Pair> {
+    let mut pair = Pair::default();
+    // SAFETY: both slices are texts, and `pair` is writable.
+    let is_found = unsafe {
+        uriparse_find_next_pair(
+            query.as_ptr(),
+            query.len(),
+            at,
+            name.as_ptr(),
+            name.len(),
+            &mut pair,
+        )
+    };
+    is_found.then_some(pair)
+}
+
 /// The order of two references; of other texts they are equal.
 pub(crate) fn compare(left: &[u8], right: &[u8]) -> Ordering {
     let mut order = 0;
@@ -321,7 +400,7 @@ pub(crate) fn compare(left: &[u8], right: &[u8]) -> Ordering {
 
 /// Whether both texts are URIs, and the first is below the second.
 pub(crate) fn is_within(text: &[u8], base: &[u8]) -> bool {
-    let mut within = 0;
+    let mut within = false;
     // SAFETY: both slices are texts, and `within` is writable.
     let code = unsafe {
         uriparse_is_within(
@@ -332,12 +411,12 @@ pub(crate) fn is_within(text: &[u8], base: &[u8]) -> bool {
             &mut within,
         )
     };
-    code == OK && within != 0
+    code == OK && within
 }
 
 /// Whether the host of a reference is within the domain, or the code of an error.
 pub(crate) fn host_is_within(text: &[u8], domain: &[u8]) -> Result<bool, u32> {
-    let mut within = 0;
+    let mut within = false;
     // SAFETY: both slices are texts, and `within` is writable.
     let code = unsafe {
         uriparse_host_is_within(
@@ -349,7 +428,7 @@ pub(crate) fn host_is_within(text: &[u8], domain: &[u8]) -> Result<bool, u32> {
         )
     };
     match code {
-        OK => Ok(within != 0),
+        OK => Ok(within),
         code => Err(code),
     }
 }
@@ -360,6 +439,24 @@ pub(crate) fn host_flags(text: &[u8]) -> u32 {
     // SAFETY: the slice is a text, and `flags` is writable. On an error it keeps its value.
     unsafe { uriparse_host_flags(text.as_ptr(), text.len(), &mut flags) };
     flags
+}
+
+/// Whether a segment of a path is ambiguous, or the code of its error.
+pub(crate) fn is_ambiguous(segment: &[u8]) -> Result<bool, u32> {
+    let mut ambiguous = false;
+    // SAFETY: the slice is a text, and `ambiguous` is writable.
+    match unsafe { uriparse_is_ambiguous(segment.as_ptr(), segment.len(), &mut ambiguous) } {
+        OK => Ok(ambiguous),
+        code => Err(code),
+    }
+}
+
+/// The port of a reference or the default port of its scheme, or -1, also for another text.
+pub(crate) fn port_or_default(text: &[u8]) -> i32 {
+    let mut port = -1;
+    // SAFETY: the slice is a text, and `port` is writable. On an error it keeps its value.
+    unsafe { uriparse_port_or_default(text.as_ptr(), text.len(), &mut port) };
+    port
 }
 
 /// The default port of a scheme, or 0.
@@ -424,15 +521,24 @@ pub(crate) enum Write<'a> {
     Target(&'a [u8], &'a [u8]),
     /// What leads from the first to the second.
     Relative(&'a [u8], &'a [u8]),
+    /// The bytes of the address that is the host.
+    #[cfg(feature = "std")]
+    Address(&'a [u8]),
     #[cfg(feature = "alloc")]
     Origin(&'a [u8]),
     #[cfg(feature = "alloc")]
     Decoded(&'a [u8]),
+    /// What a text of a form stands for.
+    #[cfg(feature = "alloc")]
+    FormDecoded(&'a [u8]),
     /// The bytes as a component with this number.
     #[cfg(feature = "alloc")]
     Encoded(u32, &'a [u8]),
     #[cfg(feature = "alloc")]
     Escaped(&'a [u8]),
+    /// The link in a text that was cut out of a page.
+    #[cfg(feature = "alloc")]
+    Trimmed(&'a [u8]),
     /// The text with these changes, whose values are among the bytes.
     #[cfg(feature = "alloc")]
     Changed(&'a [u8], &'a Values, &'a [u8]),
@@ -475,11 +581,19 @@ impl Write<'_> {
                         needed,
                     )
                 }
+                #[cfg(feature = "std")]
+                Self::Address(text) => {
+                    uriparse_host_address(text.as_ptr(), text.len(), out, room, needed)
+                }
                 #[cfg(feature = "alloc")]
                 Self::Origin(text) => uriparse_origin(text.as_ptr(), text.len(), out, room, needed),
                 #[cfg(feature = "alloc")]
                 Self::Decoded(text) => {
                     uriparse_decode(text.as_ptr(), text.len(), out, room, needed)
+                }
+                #[cfg(feature = "alloc")]
+                Self::FormDecoded(text) => {
+                    uriparse_form_decode(text.as_ptr(), text.len(), out, room, needed)
                 }
                 #[cfg(feature = "alloc")]
                 Self::Encoded(component, bytes) => {
@@ -488,6 +602,10 @@ impl Write<'_> {
                 #[cfg(feature = "alloc")]
                 Self::Escaped(text) => {
                     uriparse_escape(text.as_ptr(), text.len(), out, room, needed)
+                }
+                #[cfg(feature = "alloc")]
+                Self::Trimmed(text) => {
+                    uriparse_trim_link(text.as_ptr(), text.len(), out, room, needed)
                 }
                 #[cfg(feature = "alloc")]
                 Self::Changed(text, changes, values) => {
@@ -546,7 +664,10 @@ impl Write<'_> {
     #[cfg(feature = "alloc")]
     fn first_room(self) -> usize {
         match self {
-            Self::Normal(text) | Self::Origin(text) | Self::Decoded(text) => text.len() + 2,
+            #[cfg(feature = "std")]
+            Self::Address(_) => 16,
+            Self::Normal(text) | Self::Origin(text) => text.len() + 2,
+            Self::Decoded(text) | Self::FormDecoded(text) | Self::Trimmed(text) => text.len(),
             Self::Encoded(_, text) | Self::Escaped(text) => text.len() + 16,
             Self::Target(base, text) | Self::Relative(base, text) => base.len() + text.len() + 2,
             Self::Changed(text, _, values) => text.len() + values.len() + 8,

@@ -2,16 +2,19 @@
 
 use std::convert::TryFrom;
 use std::fs;
+use std::hash::{Hash, Hasher};
+use std::net::IpAddr;
 use std::path::Path;
 use uriparse_rattle::{
-    decode, default_port, encode, Change, Changes, Component, Encoding, Error, ErrorKind, HostKind,
-    Uri, UriRef, UriRefBuf,
+    decode, default_port, encode, form_decode, is_ambiguous, trim_link, Change, Changes, Component,
+    Encoding, Error, ErrorKind, HostKind, Uri, UriRef, UriRefBuf,
 };
 
 /// The codes of `uriparse.h`, as the rows name them.
-const NAMES: [(&str, ErrorKind); 27] = {
+const NAMES: &[(&str, ErrorKind)] = {
     use ErrorKind::*;
-    [
+    &[
+        // codes.tsv: names
         ("NO_SCHEME", NotUri),
         ("COLON_IN_SEGMENT", SchemelessPathStartsWithColonSegment),
         ("TOO_MANY_SEGMENTS", ExceededMaximumPathLength),
@@ -39,6 +42,7 @@ const NAMES: [(&str, ErrorKind); 27] = {
         ("SCHEME_EMPTY", SchemeIsEmpty),
         ("SCHEME_BYTE", InvalidSchemeCharacter),
         ("SCHEME_LETTER", SchemeStartsWithNonAlphabetic),
+        // codes.tsv: end
     ]
 };
 
@@ -90,6 +94,52 @@ fn pairs_of(uri: UriRef<'_>) -> Bytes {
     shown(uri.query_pairs().map(pair).collect::<String>())
 }
 
+fn values_of(uri: UriRef<'_>, name: &str) -> Bytes {
+    let values = uri.pair_values(name);
+    Some(values.iter().fold(Vec::new(), |all, value| {
+        [&all, &b"<"[..], value, &b">"[..]].concat()
+    }))
+}
+
+fn address_of(uri: UriRef<'_>) -> Bytes {
+    Some(match uri.host_address()? {
+        IpAddr::V4(address) => address.octets().to_vec(),
+        IpAddr::V6(address) => address.octets().to_vec(),
+    })
+}
+
+/// What a reference feeds a hasher.
+#[derive(Default)]
+struct Fed(u64);
+
+impl Hasher for Fed {
+    fn write(&mut self, _: &[u8]) {
+        panic!("a reference feeds one number");
+    }
+
+    fn write_u64(&mut self, number: u64) {
+        self.0 = number;
+    }
+
+    fn finish(&self) -> u64 {
+        self.0
+    }
+}
+
+fn hash_of(uri: UriRef<'_>) -> Bytes {
+    let mut fed = Fed::default();
+    uri.hash(&mut fed);
+    shown(fed.finish())
+}
+
+/// Whether two references have one origin: a relative one has none.
+fn same_origin(left: UriRef<'_>, right: UriRef<'_>) -> Bytes {
+    shown(match (Uri::try_from(left), Uri::try_from(right)) {
+        (Ok(left), Ok(right)) => left.same_origin(&right),
+        _ => false,
+    })
+}
+
 fn origin_of(text: &[u8]) -> Result<Bytes, Error> {
     match Uri::try_from(text) {
         Err(error) if error.kind() == ErrorKind::NotUri => Ok(None),
@@ -139,8 +189,15 @@ fn answer_of_one(call: &str, text: &[u8]) -> Option<Result<Bytes, Error>> {
         "default_port" => Ok(default_port(plain()).and_then(shown)),
         "origin" => origin_of(text),
         "normalize" => read(|uri| shown(uri.normalize())),
+        "port_or_default" => read(|uri| uri.port_or_default().and_then(shown)),
+        "host_address" => read(address_of),
+        "is_normalized" => read(|uri| shown(uri.is_normalized())),
+        "hash" => read(hash_of),
+        "is_ambiguous" => is_ambiguous(plain()).map(shown),
         "pairs" => read(pairs_of),
         "decode" => decode(plain()).map(Some),
+        "form_decode" => form_decode(plain()).map(Some),
+        "trim_link" => Ok(shown(trim_link(plain()))),
         _ => return None,
     })
 }
@@ -159,6 +216,8 @@ fn answer(call: &str, values: &[Bytes]) -> Option<Result<Bytes, Error>> {
     let target = |base: Uri<'_>| base.resolve(&UriRef::parse(second)?);
     Some(match call {
         "pair" => read().map(|uri| uri.pair(second)),
+        "pair_values" => read().map(|uri| values_of(uri, second)),
+        "same_origin" => references().map(|(left, right)| same_origin(left, right)),
         "with_pair" => read().map(|uri| shown(uri.with_pair(second, third))),
         "with_appended_pair" => read().map(|uri| shown(uri.with_appended_pair(second, third))),
         "without_pairs" => read().and_then(|uri| uri.without_pairs(second)).map(shown),
@@ -211,7 +270,7 @@ fn rows() {
     }
     assert!(wrong.is_empty(), "{wrong:#?}");
     println!("rows.tsv: {count} rows");
-    assert!(count > 250, "{count}");
+    assert!(count > 400, "{count}");
 }
 
 /// A number below `limit`, the same in every run.

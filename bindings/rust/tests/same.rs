@@ -1,7 +1,11 @@
 //! Random strings: what the crate's calls return is what the calls of C return.
 
 use std::convert::TryFrom;
-use uriparse_rattle::{decode, encode, escape, Change, Changes, Encoding, Error, Uri, UriRef};
+use std::net::IpAddr;
+use uriparse_rattle::{
+    decode, encode, escape, form_decode, is_ambiguous, trim_link, Change, Changes, Encoding, Error,
+    Uri, UriRef,
+};
 
 type OfOne = unsafe extern "C" fn(*const u8, usize, *mut u8, usize, *mut usize) -> u32;
 type OfTwo =
@@ -19,81 +23,161 @@ type Pair = unsafe extern "C" fn(
     *mut usize,
 ) -> u32;
 
+#[allow(dead_code)]
 extern "C" {
-    fn uriparse_equal(a: *const u8, al: usize, b: *const u8, bl: usize, out: *mut bool) -> u32;
-    fn uriparse_compare(a: *const u8, al: usize, b: *const u8, bl: usize, out: *mut i32) -> u32;
-    fn uriparse_is_within(a: *const u8, al: usize, b: *const u8, bl: usize, out: *mut bool) -> u32;
-    fn uriparse_host_is_within(
-        a: *const u8,
-        al: usize,
-        b: *const u8,
-        bl: usize,
-        out: *mut bool,
+    // calls.tsv: calls
+    fn uriparse_first_fault(text: *const u8, len: usize, place: *mut usize) -> u32;
+    fn uriparse_is_uri(text: *const u8, len: usize) -> bool;
+    fn uriparse_equal(
+        left: *const u8,
+        left_len: usize,
+        right: *const u8,
+        right_len: usize,
+        equal: *mut bool,
     ) -> u32;
-    fn uriparse_host_flags(a: *const u8, al: usize, out: *mut u32) -> u32;
-    fn uriparse_normalize(a: *const u8, al: usize, o: *mut u8, room: usize, n: *mut usize) -> u32;
-    fn uriparse_origin(a: *const u8, al: usize, o: *mut u8, room: usize, n: *mut usize) -> u32;
-    fn uriparse_decode(a: *const u8, al: usize, o: *mut u8, room: usize, n: *mut usize) -> u32;
-    fn uriparse_escape(a: *const u8, al: usize, o: *mut u8, room: usize, n: *mut usize) -> u32;
-    fn uriparse_encode(
-        c: u32,
-        a: *const u8,
-        al: usize,
-        o: *mut u8,
+    fn uriparse_compare(
+        left: *const u8,
+        left_len: usize,
+        right: *const u8,
+        right_len: usize,
+        order: *mut i32,
+    ) -> u32;
+    fn uriparse_same_origin(
+        left: *const u8,
+        left_len: usize,
+        right: *const u8,
+        right_len: usize,
+        same: *mut bool,
+    ) -> u32;
+    fn uriparse_is_normalized(text: *const u8, len: usize, normalized: *mut bool) -> u32;
+    fn uriparse_is_within(
+        text: *const u8,
+        len: usize,
+        base: *const u8,
+        base_len: usize,
+        within: *mut bool,
+    ) -> u32;
+    fn uriparse_host_is_within(
+        text: *const u8,
+        len: usize,
+        domain: *const u8,
+        domain_len: usize,
+        within: *mut bool,
+    ) -> u32;
+    fn uriparse_host_flags(text: *const u8, len: usize, flags: *mut u32) -> u32;
+    fn uriparse_is_ambiguous(segment: *const u8, len: usize, ambiguous: *mut bool) -> u32;
+    fn uriparse_port_or_default(text: *const u8, len: usize, port: *mut i32) -> u32;
+    fn uriparse_host_address(
+        text: *const u8,
+        len: usize,
+        out: *mut u8,
         room: usize,
-        n: *mut usize,
+        needed: *mut usize,
+    ) -> u32;
+    fn uriparse_default_port(scheme: *const u8, len: usize) -> u32;
+    fn uriparse_hash(text: *const u8, len: usize, hash: *mut u64) -> u32;
+    fn uriparse_normalize(
+        text: *const u8,
+        len: usize,
+        out: *mut u8,
+        room: usize,
+        needed: *mut usize,
     ) -> u32;
     fn uriparse_resolve(
-        a: *const u8,
-        al: usize,
-        b: *const u8,
-        bl: usize,
-        o: *mut u8,
+        base: *const u8,
+        base_len: usize,
+        text: *const u8,
+        len: usize,
+        out: *mut u8,
         room: usize,
-        n: *mut usize,
+        needed: *mut usize,
     ) -> u32;
     fn uriparse_relativize(
-        a: *const u8,
-        al: usize,
-        b: *const u8,
-        bl: usize,
-        o: *mut u8,
+        base: *const u8,
+        base_len: usize,
+        text: *const u8,
+        len: usize,
+        out: *mut u8,
         room: usize,
-        n: *mut usize,
+        needed: *mut usize,
     ) -> u32;
-    fn uriparse_drop_pairs(
-        a: *const u8,
-        al: usize,
-        b: *const u8,
-        bl: usize,
-        o: *mut u8,
+    fn uriparse_origin(
+        text: *const u8,
+        len: usize,
+        out: *mut u8,
         room: usize,
-        n: *mut usize,
+        needed: *mut usize,
     ) -> u32;
     fn uriparse_set_pair(
-        a: *const u8,
-        al: usize,
-        b: *const u8,
-        bl: usize,
-        c: *const u8,
-        cl: usize,
-        has: bool,
-        o: *mut u8,
+        query: *const u8,
+        len: usize,
+        name: *const u8,
+        name_len: usize,
+        value: *const u8,
+        value_len: usize,
+        has_value: bool,
+        out: *mut u8,
         room: usize,
-        n: *mut usize,
+        needed: *mut usize,
     ) -> u32;
     fn uriparse_append_pair(
-        a: *const u8,
-        al: usize,
-        b: *const u8,
-        bl: usize,
-        c: *const u8,
-        cl: usize,
-        has: bool,
-        o: *mut u8,
+        query: *const u8,
+        len: usize,
+        name: *const u8,
+        name_len: usize,
+        value: *const u8,
+        value_len: usize,
+        has_value: bool,
+        out: *mut u8,
         room: usize,
-        n: *mut usize,
+        needed: *mut usize,
     ) -> u32;
+    fn uriparse_drop_pairs(
+        query: *const u8,
+        len: usize,
+        names: *const u8,
+        names_len: usize,
+        out: *mut u8,
+        room: usize,
+        needed: *mut usize,
+    ) -> u32;
+    fn uriparse_decode(
+        text: *const u8,
+        len: usize,
+        out: *mut u8,
+        room: usize,
+        needed: *mut usize,
+    ) -> u32;
+    fn uriparse_form_decode(
+        text: *const u8,
+        len: usize,
+        out: *mut u8,
+        room: usize,
+        needed: *mut usize,
+    ) -> u32;
+    fn uriparse_encode(
+        component: u32,
+        bytes: *const u8,
+        len: usize,
+        out: *mut u8,
+        room: usize,
+        needed: *mut usize,
+    ) -> u32;
+    fn uriparse_escape(
+        text: *const u8,
+        len: usize,
+        out: *mut u8,
+        room: usize,
+        needed: *mut usize,
+    ) -> u32;
+    fn uriparse_trim_link(
+        text: *const u8,
+        len: usize,
+        out: *mut u8,
+        room: usize,
+        needed: *mut usize,
+    ) -> u32;
+    // calls.tsv: end
 }
 
 const NO_PAIRS: u32 = 14;
@@ -168,6 +252,15 @@ fn check_any(text: &str) {
         decode(text).map_err(code),
         "{text}"
     );
+    assert_eq!(
+        of_one(uriparse_form_decode, text),
+        form_decode(text).map_err(code),
+        "{text}"
+    );
+    assert_eq!(of_one(uriparse_trim_link, text), Ok(bytes(trim_link(text))));
+    // SAFETY: the text is valid for its length.
+    let ambiguous = asked(|out| unsafe { uriparse_is_ambiguous(text.as_ptr(), text.len(), out) });
+    assert_eq!(ambiguous, is_ambiguous(text).map_err(code), "{text}");
     for encoding in [Encoding::Username, Encoding::Segment, Encoding::Pair] {
         let (at, number) = (text.as_ptr(), encoding as u32);
         // SAFETY: as above.
@@ -194,6 +287,17 @@ fn check_reference(uri: UriRef<'_>, base: &str) {
     let own = [uri.hides_address(), uri.may_be_numeric(), uri.has_escapes()];
     let sum = (0..3).map(|at| u32::from(own[at]) << at).sum();
     assert_eq!(flags, Ok(sum), "{text}");
+    // SAFETY: as above.
+    let normalized = asked(|out| unsafe { uriparse_is_normalized(a, text.len(), out) });
+    assert_eq!(normalized, Ok(uri.is_normalized()), "{text}");
+    // SAFETY: as above.
+    let port = asked(|out| unsafe { uriparse_port_or_default(a, text.len(), out) });
+    assert_eq!(port, Ok(uri.port_or_default().map_or(-1, i32::from)));
+    let address = uri.host_address().map(|address| match address {
+        IpAddr::V4(address) => address.octets().to_vec(),
+        IpAddr::V6(address) => address.octets().to_vec(),
+    });
+    assert_eq!(of_one(uriparse_host_address, text).ok(), address, "{text}");
 
     let query = uri.query().unwrap_or("");
     let set = uri.with_pair(base, Some(text));
@@ -205,6 +309,7 @@ fn check_reference(uri: UriRef<'_>, base: &str) {
     );
     assert_eq!(found, expected, "{text} {base}");
     assert_eq!(set.pair(base), Some(bytes(text)));
+    assert_eq!(set.pair_values(base), [bytes(text)]);
     assert_eq!(set.without_pair(base).pair(base), None, "{text} {base}");
     let left = uri.without_pairs(base);
     let left = left.map(|left| left.query().map(bytes)).map_err(code);
@@ -241,6 +346,9 @@ fn check_two(base: Uri<'_>, uri: UriRef<'_>) {
         // SAFETY: as above.
         let within = asked(|out| unsafe { uriparse_is_within(b, other.len(), a, one.len(), out) });
         assert_eq!(within, Ok(uri.is_within(&base)), "{one} {other}");
+        // SAFETY: as above.
+        let same = asked(|out| unsafe { uriparse_same_origin(a, one.len(), b, other.len(), out) });
+        assert_eq!(same, Ok(uri.same_origin(&base)), "{one} {other}");
         let origin = of_one(uriparse_origin, other).ok();
         assert_eq!(origin, uri.origin().map(bytes), "{other}");
     }

@@ -1,9 +1,9 @@
 -- What a proxy can be asked for: RFC 9112, section 3.2.2.
-use Rattle.std.specs.Prelude.{◌≡◌, ◌⊎◌, ℕ, true, false, List, Option, Some, None, IsSome, is_some, string_bytes}
+use Rattle.std.specs.Prelude.{◌≡◌, ◌⊎◌, ℕ, true, false, List, Some, None, IsSome, is_some}
 use Rattle.std.specs.Option.{IsSomeAnd}
 use Rattle.uriparse.specs.SchemeValue.{Scheme}
 use Rattle.uriparse.specs.Host.{is_empty}
-use Rattle.uriparse.specs.Reference.{Parts, Spells, host_of, print, username_of}
+use Rattle.uriparse.specs.Reference.{Parts, Spells, host_of, username_of}
 use Rattle.uriparse.specs.declared.uri.error.URIError.TheVariants as uris
 use Rattle.uriparse.specs.Kinds.{fault_of}
 use Rattle.uriparse.specs.Uri.{IsNamed, http, https, map_error}

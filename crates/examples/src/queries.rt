@@ -2,7 +2,7 @@
 //!
 //! The tests are functions with names: the prover doesn't cover closures that take an owned `Option`.
 ghost use Rattle.std.specs.List.{filter, starts_with};
-ghost use Rattle.std.specs.Prelude.{◌≡◌, ◌==◌, IfOk, None, codes, not};
+ghost use Rattle.std.specs.Prelude.{◌≡◌, ◌==◌, IfOk, None, codes, not, true};
 ghost use Rattle.uriparse.specs.Edit.TheVariants as edits;
 ghost use Rattle.uriparse.specs.Edits.{edited};
 ghost use Rattle.uriparse.specs.Kinds.{with_mapped_error};
@@ -32,6 +32,26 @@ pub fn without_tracking(
     ensures { IfOk result (λ q. pairs_left q ≡ filter (λ p. not (starts_with ◌==◌ p.0 (codes "utm_"))) (pairs query.now)) }
 {
     query.without_pairs(alloc, is_tracking)
+}
+
+/// Whether the query, with `page` set to these bytes, has this page: it always has, if memory is found.
+///
+/// ```
+/// let query = Query::try_from_str("q=a&%70age=1")?;
+/// assert!(has_page_that_is_set(alloc, &query, b"2&3")?);
+/// ```
+pub fn has_page_that_is_set(
+    alloc: Global,
+    query: &Query<'_>,
+    page: &[u8],
+) -> Result<bool, AllocError>
+    ensures { IfOk result (λ b. b ≡ true) }
+{
+    let query = query.with_pair(alloc, b"page", Some(page))?;
+    match query.pair(b"page") {
+        Some(value) => Ok(value.decode(alloc)?.as_slice() == page),
+        None => Ok(false),
+    }
 }
 
 /// No query, whatever it was.

@@ -2,7 +2,7 @@
 //! `test_wrong_texts`.
 #![tactic(auto)]
 
-ghost use Rattle.std.specs.Prelude.{◌∷◌, [], IfSome, codes};
+ghost use Rattle.std.specs.Prelude.{◌≡◌, ◌∷◌, [], Some, codes};
 ghost use Rattle.test_wrong_commands.specs.Lines.{aligned, appended, of_lines, of_second_fields};
 ghost use Rattle.uri_commands.specs.Help.{version};
 ghost use Rattle.uri_commands.specs.Output as spec;
@@ -10,7 +10,7 @@ ghost use Rattle.uri_commands.specs.Tasks.{LinesEndWith};
 ghost use Rattle.uri_commands.specs.declared.get.Part.TheVariants as part;
 
 use std::alloc::Global;
-use std::io::{BufRead, Write};
+use std::io::{BufRead, Read, Write};
 use uri_commands::{run, run_with_input};
 
 /// Prints the components of a reference.
@@ -94,6 +94,33 @@ pub fn print_target<O: Write, E: Write>(
     run(alloc, &["resolve", "--", base, text], out, err)
 }
 
+/// Prints the normal form of a reference, and reads nothing.
+pub fn print_normal_form_unread<I: Read, O: Write, E: Write>(
+    alloc: Global,
+    text: &str,
+    input: &mut I,
+    out: &mut O,
+    err: &mut E,
+) -> u8
+    ensures ends { spec.Ends (spec.Normalizes text.now) (O.contents out.old) (O.contents out.new) result }
+    ensures unread { I.remaining input.new ≡ I.remaining input.old }
+{
+    run_with_input(alloc, &["normalize", "--", text], input, out, err)
+}
+
+/// Checks that a URI is below a base. Does not allocate, so there is always an answer.
+pub fn check_below<O: Write, E: Write>(
+    alloc: Global,
+    base: &str,
+    text: &str,
+    out: &mut O,
+    err: &mut E,
+) -> u8
+    ensures { spec.Gives (spec.Within base.now text.now) (O.contents out.old) (O.contents out.new) result }
+{
+    run(alloc, &["within", "--", base, text], out, err)
+}
+
 /// Prints the normal form of each line of the input.
 pub fn print_normal_forms<I: BufRead, O: Write, E: Write>(
     alloc: Global,
@@ -101,7 +128,7 @@ pub fn print_normal_forms<I: BufRead, O: Write, E: Write>(
     out: &mut O,
     err: &mut E,
 ) -> u8
-    ensures { IfSome (I.remaining input.old) (λ bytes. LinesEndWith of_lines (codes "normalize" ∷ []) bytes (O.contents out.old) (O.contents out.new) result) }
+    ensures { LinesEndWith of_lines (codes "normalize" ∷ []) (I.remaining input.old) (I.remaining input.new) (O.contents out.old) (O.contents out.new) result }
 {
     run_with_input(alloc, &["--lines", "normalize"], input, out, err)
 }
@@ -113,7 +140,7 @@ pub fn replace_by_normal_forms<I: BufRead, O: Write, E: Write>(
     out: &mut O,
     err: &mut E,
 ) -> u8
-    ensures { IfSome (I.remaining input.old) (λ bytes. LinesEndWith aligned (codes "normalize" ∷ []) bytes (O.contents out.old) (O.contents out.new) result) }
+    ensures { LinesEndWith aligned (codes "normalize" ∷ []) (I.remaining input.old) (I.remaining input.new) (O.contents out.old) (O.contents out.new) result }
 {
     run_with_input(alloc, &["--lines", "--align", "normalize"], input, out, err)
 }
@@ -125,7 +152,7 @@ pub fn append_normal_forms<I: BufRead, O: Write, E: Write>(
     out: &mut O,
     err: &mut E,
 ) -> u8
-    ensures { IfSome (I.remaining input.old) (λ bytes. LinesEndWith appended (codes "normalize" ∷ []) bytes (O.contents out.old) (O.contents out.new) result) }
+    ensures { LinesEndWith appended (codes "normalize" ∷ []) (I.remaining input.old) (I.remaining input.new) (O.contents out.old) (O.contents out.new) result }
 {
     run_with_input(
         alloc,
@@ -143,7 +170,7 @@ pub fn replace_second_fields<I: BufRead, O: Write, E: Write>(
     out: &mut O,
     err: &mut E,
 ) -> u8
-    ensures { IfSome (I.remaining input.old) (λ bytes. LinesEndWith of_second_fields (codes "normalize" ∷ []) bytes (O.contents out.old) (O.contents out.new) result) }
+    ensures { LinesEndWith of_second_fields (codes "normalize" ∷ []) (I.remaining input.old) (I.remaining input.new) (O.contents out.old) (O.contents out.new) result }
 {
     run_with_input(
         alloc,
@@ -156,9 +183,21 @@ pub fn replace_second_fields<I: BufRead, O: Write, E: Write>(
 
 /// Prints the normal form of no line, since `run` has an empty input.
 pub fn print_no_normal_forms<O: Write, E: Write>(alloc: Global, out: &mut O, err: &mut E) -> u8
-    ensures { LinesEndWith of_lines (codes "normalize" ∷ []) [] (O.contents out.old) (O.contents out.new) result }
+    ensures { LinesEndWith of_lines (codes "normalize" ∷ []) (Some []) (Some []) (O.contents out.old) (O.contents out.new) result }
 {
     run(alloc, &["--lines", "normalize"], out, err)
+}
+
+/// Prints nothing for the lines of the input, and reads none, since no task has this name.
+pub fn refuse_task<I: Read, O: Write, E: Write>(
+    alloc: Global,
+    input: &mut I,
+    out: &mut O,
+    err: &mut E,
+) -> u8
+    ensures { LinesEndWith of_lines (codes "tail" ∷ []) (I.remaining input.old) (I.remaining input.new) (O.contents out.old) (O.contents out.new) result }
+{
+    run_with_input(alloc, &["--lines", "tail"], input, out, err)
 }
 
 /// Prints the page on `parse`.
@@ -177,7 +216,7 @@ pub fn print_version<O: Write, E: Write>(alloc: Global, out: &mut O, err: &mut E
 
 /// Runs no command, which is a usage error.
 pub fn refuse_no_command<O: Write, E: Write>(alloc: Global, out: &mut O, err: &mut E) -> u8
-    ensures { spec.Ends spec.IsUnknown (O.contents out.old) (O.contents out.new) result }
+    ensures { spec.Gives spec.IsUnknown (O.contents out.old) (O.contents out.new) result }
 {
     run(alloc, &[], out, err)
 }

@@ -6,7 +6,8 @@ ghost use Rattle.uriparse_text.specs.Readings.{IsUnless};
 ghost use Rattle.uriparse_text.specs.declared.segment.error.PathError.TheVariants as paths;
 ghost use Rattle.uriparse_reference.specs.Normal.{canonical_texts, normal};
 ghost use Rattle.uriparse_reference.specs.Into.{Writes};
-ghost use Rattle.uriparse_reference.specs.Reference.{Parts, Spells, print};
+ghost use Rattle.uriparse_reference.specs.Ports.{port_or_default};
+ghost use Rattle.uriparse_reference.specs.Reference.{Parts, Spells, host_of, print};
 ghost use Rattle.uriparse_reference.specs.Relate.{relative};
 ghost use Rattle.uriparse_reference.specs.Target.{target};
 ghost use Rattle.uriparse.specs.File as files;
@@ -20,7 +21,9 @@ ghost use Rattle.uriparse.specs.declared.uri.error.URIError.TheVariants as error
 
 use std::alloc::{AllocError, Global};
 use uriparse::file::{FileError, from_path, to_path};
-use uriparse::{BufferError, Origin, Query, URI, URIBuilder, URIError, URIReference, URIView};
+use uriparse::{
+    BufferError, Host, Origin, Query, URI, URIBuilder, URIError, URIReference, URIView,
+};
 
 /// Reads a URI. A fault, or that there is no scheme, is returned whatever memory there is, and a path
 /// of one segment takes none.
@@ -51,6 +54,20 @@ pub fn normalize(uri: &mut URI<'_>, alloc: Global) -> Result<(), AllocError>
     ensures takes_no_memory { canonical_texts uri.old ≡ uri.old → IsOk result }
 {
     uri.normalize(alloc)
+}
+
+/// The port of a view, or the default port of its scheme.
+pub fn port(uri: &URIView<'_>) -> Option<u16>
+    ensures { result ≡ port_or_default uri.now.parts }
+{
+    uri.port_or_default()
+}
+
+/// The host of a view of a URI, which is read as a view of any reference is.
+pub fn host<'t>(uri: &URIView<'t>) -> Option<Host<'t>>
+    ensures { result ≡ host_of uri.now.parts }
+{
+    uri.host()
 }
 
 /// The target of a reference against a base.

@@ -1,12 +1,12 @@
 -- Edits, the words that name them, and what they make of a reference.
 use Rattle.std.proofs.Common.{◌≡◌, ◌⊎◌, suc, inl, inr, ℕ, ◌+◌, ◌-◌, ◌<◌, ◌≤◌, Bool, true, false, List, [], ◌∷◌, ◌++◌, drop, length, map, take, Option, Some, None, Result, Ok, Err, refl, sym, ap, subst, ◌∙◌, arith, append-nil, append_assoc}
-use Rattle.std.specs.Prelude.{◌==◌, ◌||◌, Vec, MatchOption, get_or, not, slice_get, slice_index_or}
+use Rattle.std.specs.Prelude.{◌==◌, ◌&&◌, ◌||◌, Vec, MatchOption, get_or, is_some, not, slice_get, slice_index_or}
 use Rattle.std.specs.Borrow.{Bor}
 use Rattle.std.specs.List.{filter, join_with_byte, list_all, onto_first, slice_split}
 use Rattle.std.specs.Option.{option_and_then, option_map}
 use Rattle.std.specs.Result.{IsErrAnd, result_ok}
 use Rattle.std.specs.declared.alloc.Global.{Global}
-use Rattle.std.proofs.lemmas.Bool.{and_from, and_parts}
+use Rattle.std.proofs.lemmas.Bool.{and_from, and_parts, false≢true}
 use Rattle.std.proofs.lemmas.List.Concat.{flat_map-append}
 use Rattle.std.proofs.lemmas.Option.{get_or_from_slice_get, slice_get_within}
 use Rattle.std.proofs.Math.Seq.{take-suc}
@@ -28,11 +28,12 @@ use Rattle.uriparse.specs.PathError.TheVariants.{OutOfMemory}
 use Rattle.uriparse.specs.Reference.{Parts, Spells, print}
 use Rattle.uriparse.specs.URIReferenceError.{URIReferenceError}
 use Rattle.uriparse.specs.URIReferenceError.TheVariants as references
-use Rattle.uri_commands.specs.Edits.{DropPair, DropsPairs, Edit, Reads, ReadsNames, ReadsNone, act_made, all_made, byte_in_name, edit_of, edits_of, name_text, pair_edit, plain_edit, steps_made, then_or, valued_edit, without_pairs}
+use Rattle.uri_commands.specs.Edits.{AppendPair, DropPair, DropsPairs, Edit, Normalize, Reads, ReadsNames, ReadsNone, Remove, Set, SetPair, SortPairs, act_made, all_made, are_readable, byte_in_name, edit_of, edits_of, is_readable, made, name_text, pair_edit, plain_edit, set_to, steps_made, then_or, value_of, valued_edit, without_pairs}
 use Rattle.uri_commands.specs.Output.{Does, Edited, Edits, EditsLine, EndsWork, NamesNone, OnEdits, ReadsChanges, ReadsEdits, Rejected, Unknown, Writes, answer_of, line}
 use Rattle.uri_commands.specs.declared.edit.Change.{Change}
 use Rattle.uri_commands.specs.declared.edit.Change.TheVariants as kinds
 use Rattle.uri_commands.specs.declared.edit.Step.{Step}
+use Rattle.uri_commands.specs.declared.edit.Value.{Value}
 use Rattle.uri_commands.specs.declared.failure.Failure.{Failure}
 use Rattle.uri_commands.specs.declared.failure.Failure.TheVariants as failures
 use Rattle.uri_commands.proofs.OutputLemmas.{Done, Known, answered, of_reference}
@@ -323,11 +324,49 @@ dropped_of name changes text count d p =
     ap (λ es. all_made (DropPair name ∷ es) p) d.begin ∙ dropped_made name d.names (map edit_of (drop count changes)) p
     ∙ ap (λ t. made_of (map edit_of (drop count changes)) p (read t)) (sym d.text_is)
 
+-- They are readable if the names are together.
+dropped_readable : (name : List ℕ) (names : List (List ℕ)) (es : List Edit)
+    → are_readable (DropPair name ∷ (map DropPair names ++ es))
+    ≡ (is_some (read (join_with_byte ampersand (map name_text (name ∷ names)))) && are_readable es)
+dropped_readable name [] es = refl
+dropped_readable name (n ∷ ns) es =
+    by_reading (both_read t u None None (readable t) (readable u) (readable (t ++ ampersand ∷ u))) (dropped_readable n ns es)
+  where
+    t : List ℕ
+    t = name_text name
+
+    u : List ℕ
+    u = join_with_byte ampersand (map name_text (n ∷ ns))
+
+    later : Bool
+    later = are_readable (DropPair n ∷ (map DropPair ns ++ es))
+
+    by_reading : ((read t ≡ Some t) × (read u ≡ Some u) × (read (t ++ ampersand ∷ u) ≡ Some (t ++ ampersand ∷ u)))
+        ⊎ ((read (t ++ ampersand ∷ u) ≡ None) × ((read t ≡ None) ⊎ ((read t ≡ Some t) × (read u ≡ None))))
+        → later ≡ (is_some (read u) && are_readable es)
+        → (is_some (read t) && later) ≡ (is_some (read (t ++ ampersand ∷ u)) && are_readable es)
+    by_reading (inl all) h =
+        ap (λ o. is_some o && later) all.0 ∙ h ∙ ap (λ o. is_some o && are_readable es) all.1
+        ∙ sym (ap (λ o. is_some o && are_readable es) all.2)
+    by_reading (inr (whole, inl none)) h = ap (λ o. is_some o && later) none ∙ sym (ap (λ o. is_some o && are_readable es) whole)
+    by_reading (inr (whole, inr one)) h =
+        ap (λ o. is_some o && later) one.0 ∙ h ∙ ap (λ o. is_some o && are_readable es) one.1
+        ∙ sym (ap (λ o. is_some o && are_readable es) whole)
+
+readable_of : (name : List ℕ) (changes : List Change) (text : List ℕ) (count : ℕ) → DropsPairs name changes text count
+    → are_readable (DropPair name ∷ map edit_of changes) ≡ (is_some (read text) && are_readable (map edit_of (drop count changes)))
+readable_of name changes text count d =
+    ap (λ es. are_readable (DropPair name ∷ es)) d.begin ∙ dropped_readable name d.names (map edit_of (drop count changes))
+    ∙ ap (λ t. is_some (read t) && are_readable (map edit_of (drop count changes))) (sym d.text_is)
+
 pub names_read : (name : List ℕ) (changes : List Change) (text now q : List ℕ) (count : ℕ) → DropsPairs name changes text count → now ≡ text
     → read now ≡ Some q
     → Reads (DropPair name) changes (λ p. Some (without_pairs q p)) count
 names_read name changes text now q count d same is = record {
   within = d.within;
+  readable =
+      readable_of name changes text count d
+      ∙ ap (λ o. is_some o && are_readable (map edit_of (drop count changes))) (ap read (sym same) ∙ is);
   makes =
       λ p. dropped_of name changes text count d p ∙ ap (λ t. made_of (map edit_of (drop count changes)) p (read t)) (sym same)
       ∙ ap (made_of (map edit_of (drop count changes)) p) is;
@@ -338,8 +377,8 @@ pub names_unread : (name : List ℕ) (changes : List Change) (text now : List �
     → (x ≡ references.Path OutOfMemory) ⊎ (read now ≡ None) → ReadsNone (DropPair name) changes x
 names_unread name changes text now count x d same (inl memory) = inl memory
 names_unread name changes text now count x d same (inr none) =
-    inr (λ p. dropped_of name changes text count d p ∙ ap (λ t. made_of (map edit_of (drop count changes)) p (read t)) (sym same)
-    ∙ ap (made_of (map edit_of (drop count changes)) p) none)
+    inr (readable_of name changes text count d
+    ∙ ap (λ o. is_some o && are_readable (map edit_of (drop count changes))) (ap read (sym same) ∙ none))
 
 pub names_failed : (name : List ℕ) (changes : List Change) (text now : List ℕ) (count : ℕ) (x : URIReferenceError)
     (r : Result (List ℕ × ℕ) URIReferenceError)
@@ -473,56 +512,89 @@ pub steps_end : (all left : List Edit) (steps : List Step) → StepsMake all ste
 steps_end all left steps makes none p =
     sym (makes p ∙ ap (λ es. option_and_then (all_made es) (steps_made steps p)) none ∙ then_itself (steps_made steps p))
 
-pub steps_none : (all now : List Edit) (steps : List Step) → StepsMake all steps now → ((p : Parts) → all_made now p ≡ None) → (p : Parts)
-    → all_made all p ≡ None
-steps_none all now steps makes none p = makes p ∙ by_made (steps_made steps p)
-  where
-    by_made : (o : Option Parts) → option_and_then (all_made now) o ≡ None
-    by_made None = refl
-    by_made (Some q) = none q
+-- the first of the changes that are left, and the others
+first_left : (changes : List Change) (at : ℕ) (c d : Change) → at < length changes → c ≡ get_or changes at d
+    → map edit_of (drop at changes) ≡ edit_of c ∷ map edit_of (from (at + 1) changes)
+first_left changes at c d low is =
+    ap (map edit_of) (drop_more changes at d low ∙ ap (λ x. x ∷ drop (at + 1) changes) (sym is))
+    ∙ ap (λ l. edit_of c ∷ map edit_of l) (sym (from_is (at + 1) changes))
+
+-- so many fewer are left
+fewer_left : (changes : List Change) (at more : ℕ) → drop more (from (at + 1) changes) ≡ drop (at + (1 + more)) changes
+fewer_left changes at more =
+    let next : at + 1 + more ≡ at + (1 + more) = omega arith in
+    ap (drop more) (from_is (at + 1) changes) ∙ drop-drop more (at + 1) changes ∙ ap (λ n. drop n changes) next
 
 pub changes_next_read : (changes : List Change) (at more : ℕ) (c d : Change) (steps longer : List Step) (s : Step) → at < length changes
     → StepsMake (map edit_of changes) steps (map edit_of (drop at changes)) → c ≡ get_or changes at d
     → Reads (edit_of c) (from (at + 1) changes) (act_made s.act) more
     → longer ≡ steps ++ s ∷ [] → StepsMake (map edit_of changes) longer (map edit_of (drop (at + (1 + more)) changes))
 changes_next_read changes at more c d steps longer s low before is reads put =
-    let left = from_is (at + 1) changes in
-    let now : map edit_of (drop at changes) ≡ edit_of c ∷ map edit_of (from (at + 1) changes) =
-    ap (map edit_of) (drop_more changes at d low ∙ ap (λ x. x ∷ drop (at + 1) changes) (sym is))
-    ∙ ap (λ l. edit_of c ∷ map edit_of l) (sym left) in
-    let next : at + 1 + more ≡ at + (1 + more) = omega arith in
-    subst (λ l. StepsMake (map edit_of changes) longer (map edit_of l))
-    (ap (drop more) left ∙ drop-drop more (at + 1) changes ∙ ap (λ n. drop n changes) next)
+    subst (λ l. StepsMake (map edit_of changes) longer (map edit_of l)) (fewer_left changes at more)
     (steps_read (map edit_of changes) (map edit_of (drop at changes)) (edit_of c)
-    (from (at + 1) changes) more steps longer s before now reads put)
+    (from (at + 1) changes) more steps longer s before (first_left changes at c d low is) reads put)
+
+pub changes_next_readable : (changes : List Change) (at more : ℕ) (c d : Change) (effect : Parts → Option Parts) → at < length changes
+    → are_readable (map edit_of changes) ≡ are_readable (map edit_of (drop at changes)) → c ≡ get_or changes at d
+    → Reads (edit_of c) (from (at + 1) changes) effect more
+    → are_readable (map edit_of changes) ≡ are_readable (map edit_of (drop (at + (1 + more)) changes))
+changes_next_readable changes at more c d effect low before is reads =
+    before ∙ ap are_readable (first_left changes at c d low is) ∙ reads.readable ∙ ap (λ l. are_readable (map edit_of l)) (fewer_left changes at more)
 
 pub changes_within : (changes : List Change) (at more : ℕ) → at < length changes → more ≤ length (from (at + 1) changes)
     → at + (1 + more) ≤ length changes
 changes_within changes at more low fits = omega (arith, ap length (from_is (at + 1) changes), length-drop (at + 1) changes)
 
-pub changes_unread : (changes : List Change) (at : ℕ) (c d : Change) (steps : List Step) (x : URIReferenceError)
+pub changes_unread : (changes : List Change) (at : ℕ) (c d : Change) (x : URIReferenceError)
     (r : Result (Vec Step Global) Failure) → at < length changes
-    → StepsMake (map edit_of changes) steps (map edit_of (drop at changes)) → c ≡ get_or changes at d
+    → are_readable (map edit_of changes) ≡ are_readable (map edit_of (drop at changes)) → c ≡ get_or changes at d
     → ReadsNone (edit_of c) (from (at + 1) changes) x
     → IsErrAnd r (λ f. f ≡ failures.Reference x) → ReadsChanges (map edit_of changes) r
-changes_unread changes at c d steps x (Ok ss) low before is none wrong = absurd wrong
-changes_unread changes at c d steps x (Err f) low before is (inl memory) wrong = inl (subst EndsWork (sym wrong) memory)
-changes_unread changes at c d steps x (Err f) low before is (inr none) wrong =
-    let left = from_is (at + 1) changes in
-    let now : map edit_of (drop at changes) ≡ edit_of c ∷ map edit_of (from (at + 1) changes) =
-    ap (map edit_of) (drop_more changes at d low ∙ ap (λ x. x ∷ drop (at + 1) changes) (sym is))
-    ∙ ap (λ l. edit_of c ∷ map edit_of l) (sym left) in
-    inr (
-      ap answer_of wrong,
-      steps_none (map edit_of changes) (map edit_of (drop at changes)) steps before
-          (λ p. ap (λ es. all_made es p) now ∙ none p),
-    )
+changes_unread changes at c d x (Ok ss) low before is none wrong = absurd wrong
+changes_unread changes at c d x (Err f) low before is (inl memory) wrong = inl (subst EndsWork (sym wrong) memory)
+changes_unread changes at c d x (Err f) low before is (inr none) wrong =
+    inr (ap answer_of wrong, before ∙ ap are_readable (first_left changes at c d low is) ∙ none)
 
 pub changes_read : (changes : List Change) (at : ℕ) (steps : List Step)
+    → are_readable (map edit_of changes) ≡ are_readable (map edit_of (drop at changes))
     → StepsMake (map edit_of changes) steps (map edit_of (drop at changes)) → length changes ≤ at
-    → (p : Parts) → steps_made steps p ≡ all_made (map edit_of changes) p
-changes_read changes at steps makes over =
-    steps_end (map edit_of changes) (map edit_of (drop at changes)) steps makes (ap (map edit_of) (drop_all at changes over))
+    → (are_readable (map edit_of changes) ≡ true) × ((p : Parts) → steps_made steps p ≡ all_made (map edit_of changes) p)
+changes_read changes at steps readable makes over =
+    let none = ap (map edit_of) (drop_all at changes over) in
+    (readable ∙ ap are_readable none, steps_end (map edit_of changes) (map edit_of (drop at changes)) steps makes none)
+
+-- ---- edits whose values can't be read
+
+unset : (v : Option Value) (p : Parts) → is_some v ≡ false → option_and_then (λ x. set_to x p) v ≡ None
+unset None p none = refl
+unset (Some x) p none = absurd (false≢true (sym none))
+
+undropped : (q : Option (List ℕ)) (p : Parts) → is_some q ≡ false → option_map (λ names. without_pairs names p) q ≡ None
+undropped None p none = refl
+undropped (Some x) p none = absurd (false≢true (sym none))
+
+unmade : (e : Edit) (p : Parts) → is_readable e ≡ false → made e p ≡ None
+unmade (Set c t) p none = unset (value_of c t) p none
+unmade (DropPair name) p none = undropped (read (name_text name)) p none
+unmade (Remove d) p none = absurd (false≢true (sym none))
+unmade (SetPair name value) p none = absurd (false≢true (sym none))
+unmade (AppendPair name value) p none = absurd (false≢true (sym none))
+unmade SortPairs p none = absurd (false≢true (sym none))
+unmade Normalize p none = absurd (false≢true (sym none))
+
+none_made : (es : List Edit) (o : Option Parts) → ((p : Parts) → all_made es p ≡ None) → option_and_then (all_made es) o ≡ None
+none_made es None later = refl
+none_made es (Some p) later = later p
+
+-- Such edits are rejected whatever the reference is.
+pub unreadable_made : (es : List Edit) → are_readable es ≡ false → (p : Parts) → all_made es p ≡ None
+unreadable_made [] none p = absurd (false≢true (sym none))
+unreadable_made (e ∷ es) none p = by_first (is_readable e) refl none (unreadable_made es)
+  where
+    by_first : (v : Bool) → is_readable e ≡ v → (v && are_readable es) ≡ false → (are_readable es ≡ false → (q : Parts) → all_made es q ≡ None)
+        → all_made (e ∷ es) p ≡ None
+    by_first true is others later = none_made es (made e p) (later others)
+    by_first false is others later = ap (option_and_then (all_made es)) (unmade e p is)
 
 -- ---- answers
 
@@ -542,18 +614,19 @@ pub edited_line : (t : List ℕ) (p : Parts) (make : Parts → Option Parts) (a 
 edited_line t p make a b r spelled done = of_reference t p (λ x. Edited (make x)) a b r spelled done
 
 pub edits_read : (t : List ℕ) (p q : Parts) (es : List Edit) (steps now : List Step) (a b : Known) (r : Done) → Spells t p
-    → ((x : Parts) → steps_made steps x ≡ all_made es x) → now ≡ steps → q ≡ p → Does (Edited (steps_made now q)) a b r
+    → (are_readable es ≡ true) × ((x : Parts) → steps_made steps x ≡ all_made es x) → now ≡ steps → q ≡ p
+    → Does (Edited (steps_made now q)) a b r
     → Does (EditsLine (all_made es) t) a b r
 edits_read t p q es steps now a b r spelled same is one done =
     edited_line t p (all_made es) a b r spelled
-    (subst (λ o. Does (Edited o) a b r) (ap (λ l. steps_made l q) is ∙ ap (steps_made steps) one ∙ same p) done)
+    (subst (λ o. Does (Edited o) a b r) (ap (λ l. steps_made l q) is ∙ ap (steps_made steps) one ∙ same.1 p) done)
 
 pub edits_unread : (t : List ℕ) (p : Parts) (es : List Edit) (f : Failure) (a b : Known) (r : Done) → Spells t p
-    → EndsWork f ⊎ ((answer_of f ≡ Rejected) × ((q : Parts) → all_made es q ≡ None)) → r ≡ Err f → b ≡ a
+    → EndsWork f ⊎ ((answer_of f ≡ Rejected) × (are_readable es ≡ false)) → r ≡ Err f → b ≡ a
     → Does (EditsLine (all_made es) t) a b r
 edits_unread t p es f a b r spelled (inl ends) is kept = subst (Does (EditsLine (all_made es) t) a b) (sym is) (inl ends)
 edits_unread t p es f a b r spelled (inr rejected) is kept =
-    edited_line t p (all_made es) a b r spelled (not_edited (all_made es p) f a b r (inr (rejected.1 p, rejected.0)) is kept)
+    edited_line t p (all_made es) a b r spelled (not_edited (all_made es p) f a b r (inr (unreadable_made es rejected.1 p, rejected.0)) is kept)
 
 pub edits_made : (t : List ℕ) (words : List (List ℕ)) (changes now : List Change) (a b : Known) (r : Done)
     → edits_of words ≡ Some (map edit_of changes) → now ≡ changes

@@ -1,5 +1,5 @@
 -- What is written for lines.
-use Rattle.std.proofs.Common.{◌≡◌, ◌==◌, ℕ, ◌-◌, ◌<◌, Bool, true, false, List, [], ◌∷◌, ◌++◌, Option, Some, None, Result, Ok, Err, IfSome, IfOk, cond, length, take, drop, refl, sym, ap, subst, ◌∙◌, arith, append_assoc, append-nil, eq-eqb, ne_eqb, take_all, take-append-drop, replicate, inl, inr, suc, ◌≢◌, ◌⊎◌}
+use Rattle.std.proofs.Common.{◌≡◌, ◌==◌, ℕ, ◌-◌, ◌<◌, ◌≤◌, Bool, true, false, List, [], ◌∷◌, ◌++◌, Option, Some, None, Result, Ok, Err, IfSome, IfOk, cond, length, take, drop, refl, sym, ap, subst, ◌∙◌, arith, append_assoc, append-nil, eq-eqb, ne_eqb, take_all, take-append-drop, replicate, inl, inr, suc, ◌≢◌, ◌⊎◌}
 use Rattle.std.specs.Prelude.{IsErrAnd, OnErr}
 use Rattle.std.specs.Io.KnownBytes.{Appends, IsAtEnd, Keeps, prepend_known}
 use Rattle.std.specs.Io.Buffered.{reader_buffer, reader_capacity, reader_inner, reader_remaining}
@@ -8,7 +8,7 @@ use Rattle.std.specs.Io.BufRead.{DropsThrough, drop_through, ends_with_byte, fir
 use Rattle.std.specs.List.{onto_first}
 use Rattle.std.proofs.KnownBytes.{Appends-nil, Appends-trans, Appends-kept, prepend_known-nil}
 use Rattle.std.proofs.Math.Seq.{take-append_seam}
-use Rattle.std.proofs.lemmas.List.{drop_all}
+use Rattle.std.proofs.lemmas.List.{drop_all, length-drop}
 use Rattle.uriparse_text.specs.Cuts.{before, from_first}
 use Rattle.uriparse_text.proofs.lemmas.readings.CutLemmas.{cut-whole}
 use Rattle.uri_commands.specs.Columns.{IsRow, tab}
@@ -278,6 +278,10 @@ pub sends_whole : (a b c : Known) (p q t r : List ℕ) (n : ℕ) → Sends a b p
     → Sends a c p r []
 sends_whole a b c p q t r n s same written all none =
     sends_front a b c p q t r n s same written (none ∙ sym (ap (λ k. drop k q) all ∙ drop_all (length q) q (omega arith)))
+
+-- so many bytes are taken, but not all
+pub left_some : (n : ℕ) (q t r : List ℕ) → n ≤ length t → t ≡ q → n ≢ length q → r ≡ drop n q → 0 < length r
+left_some n q t r bound same other left = omega (arith, bound, ap length same, other, ap length left, length-drop n q)
 
 pub sends_kept : (a b c : Known) (p q x : List ℕ) → Sends a b p q x → Keeps b c → Sends a c p q x
 sends_kept a b c p q x s keeps = record { sent = s.sent; written = Appends-kept a b c s.sent s.written keeps; whole = s.whole }

@@ -3,17 +3,18 @@ use Rattle.std.proofs.Common.{◌⊎◌, ℕ, ◌<◌, ◌≤◌, ◌≡◌, zer
 use Rattle.std.specs.Bool.{MatchBool}
 use Rattle.std.specs.Borrow.{Bor}
 use Rattle.std.specs.Option.{option_and_then, option_map}
-use Rattle.std.specs.Prelude.{IfSome, MatchOption, MatchResult, bytes_eq, codes}
+use Rattle.std.specs.Prelude.{MatchOption, MatchResult, bytes_eq, codes}
 use Rattle.std.specs.Io.KnownBytes.{Appends}
+use Rattle.std.proofs.KnownBytes.{Appends-nil}
 use Rattle.std.proofs.lemmas.Bool.{false≢true}
 use Rattle.std.proofs.lemmas.List.{append-nil}
 use Rattle.uriparse.specs.PathError.TheVariants.{OutOfMemory}
 use Rattle.uriparse.specs.URIReferenceError.{URIReferenceError}
 use Rattle.uriparse.specs.URIReferenceError.TheVariants as references
-use Rattle.uri_commands.specs.Options.{Request, asked}
-use Rattle.uri_commands.specs.Output.{Answer, AnswersNamed, AnswersTo, ChecksEqual, Does, DoesAtOnce, Ends, EndsWork, Finds, Gave, Tails, Writes, Negative, Printed, Rejected, Unknown, answer_of, exit_status, Answers, when◌then◌else◌, part_of, parts_of, GetsEach, GetsNames, GetsParts, parts_named}
+use Rattle.uri_commands.specs.Options.{Request, asked, command_of}
+use Rattle.uri_commands.specs.Output.{Answer, AnswersWords, IsUnknown, AnswersNamed, AnswersTo, ChecksEqual, Does, DoesAtOnce, Ends, EndsWork, Finds, FindsAtOnce, Gave, Gives, Tails, Writes, Negative, Printed, Rejected, Unknown, answer_of, exit_status, may_print, Answers, when◌then◌else◌, part_of, parts_of, GetsEach, GetsNames, GetsParts, parts_named}
 use Rattle.uri_commands.specs.Outputs.{Sends}
-use Rattle.uri_commands.specs.Tasks.{CommandEnds, LinesEnd, LinesEndWith, ProgramEnds}
+use Rattle.uri_commands.specs.Tasks.{CommandEnds, LinesEnd, NamesNothing, ProgramEnds, TasksOf}
 use Rattle.uri_commands.specs.declared.failure.Failure.{Failure}
 use Rattle.uri_commands.specs.declared.failure.Failure.TheVariants as failures
 use Rattle.uri_commands.specs.declared.get.Part.{Part}
@@ -69,6 +70,21 @@ quietly_equal mode name first second x y a b r quiet named one two found kept =
     (subst (λ n. Does (AnswersTo modes.Quiet n (first ∷ second ∷ [])) a b r) (sym named)
     (subst (λ v. Does (ChecksEqual first v) a b r) two (subst (λ v. Does (ChecksEqual v y) a b r) one (found_nothing (ChecksEqual x y) a b r found kept))))
 
+-- the same of a command that prints nothing
+pub found_on_two : (name word first second x y : List ℕ) (Is : List ℕ → List ℕ → Answer → Type 0) (r : Done) → name ≡ word → x ≡ first → y ≡ second
+    → (Finds (Is first second) r → Finds (AnswersNamed word (first ∷ second ∷ [])) r) → Finds (Is x y) r
+    → Finds (AnswersNamed name (first ∷ second ∷ [])) r
+found_on_two name word first second x y Is r named one two same found =
+    subst (λ n. Finds (AnswersNamed n (first ∷ second ∷ [])) r) (sym named)
+    (same (subst (λ v. Finds (Is first v) r) two (subst (λ v. Finds (Is v y) r) one found)))
+
+pub found_quietly_equal : (mode : Mode) (name first second x y : List ℕ) (r : Done) → mode ≡ modes.Quiet → name ≡ codes "equal" → x ≡ first → y ≡ second
+    → Finds (ChecksEqual x y) r → Finds (AnswersTo mode name (first ∷ second ∷ [])) r
+found_quietly_equal mode name first second x y r quiet named one two found =
+    subst (λ m. Finds (AnswersTo m name (first ∷ second ∷ [])) r) (sym quiet)
+    (subst (λ n. Finds (AnswersTo modes.Quiet n (first ∷ second ∷ [])) r) (sym named)
+    (subst (λ v. Finds (ChecksEqual first v) r) two (subst (λ v. Finds (ChecksEqual v y) r) one found)))
+
 -- ---- too many texts
 
 pub either : {A : Type 0} (is : Bool) (Is Other : A → Type 0) (a : A) → Is a → Other a → (when is then Is else Other) a
@@ -113,22 +129,25 @@ too_many mode name (x ∷ y ∷ z ∷ more) long = many mode name x.now y.now z.
 
 -- ---- the program
 
+ended_answer : (f : Failure) → EndsWork f → answer_of f ≡ Rejected
+ended_answer failures.Usage ends = absurd ends
+ended_answer (failures.Reference e) ends = refl
+ended_answer (failures.Uri e) ends = refl
+ended_answer (failures.Edit i e) ends = refl
+ended_answer (failures.Query e) ends = absurd ends
+ended_answer (failures.File e) ends = refl
+ended_answer failures.NoTab ends = absurd ends
+ended_answer failures.TooFewFields ends = absurd ends
+ended_answer failures.Absent ends = absurd ends
+ended_answer failures.Different ends = absurd ends
+ended_answer failures.Outside ends = absurd ends
+ended_answer (failures.Memory e) ends = refl
+ended_answer (failures.MemoryAtLine n) ends = refl
+ended_answer (failures.Input e) ends = refl
+ended_answer (failures.Output e) ends = refl
+
 ended_rejected : (f : Failure) → EndsWork f → exit_status (answer_of f) ≡ 1
-ended_rejected failures.Usage ends = absurd ends
-ended_rejected (failures.Reference e) ends = refl
-ended_rejected (failures.Uri e) ends = refl
-ended_rejected (failures.Edit i e) ends = refl
-ended_rejected (failures.Query e) ends = absurd ends
-ended_rejected (failures.File e) ends = refl
-ended_rejected failures.NoTab ends = absurd ends
-ended_rejected failures.TooFewFields ends = absurd ends
-ended_rejected failures.Absent ends = absurd ends
-ended_rejected failures.Different ends = absurd ends
-ended_rejected failures.Outside ends = absurd ends
-ended_rejected (failures.Memory e) ends = refl
-ended_rejected (failures.MemoryAtLine n) ends = refl
-ended_rejected (failures.Input e) ends = refl
-ended_rejected (failures.Output e) ends = refl
+ended_rejected f ends = ap exit_status (ended_answer f ends)
 
 nothing_printed : (bytes : List ℕ) (f : Failure) → Printed bytes ≡ answer_of f → ⊥
 nothing_printed bytes failures.Usage same = cc
@@ -174,56 +193,74 @@ written_whole Is all after a b r done sends none is =
     subst (DoesAtOnce Is a b) (sym is) (all, subst (λ x. Is (Printed x)) (sym done.2) done.1, subst (Appends a b) whole sends.written, refl)
 
 pub written_partly : (Is : Answer → Type 0) (all after : List ℕ) (f : Failure) (a b : Known) (r : Result ℕ Failure) → Does Is (Some []) (Some all) (Ok tt)
-    → Sends a b all after [] → EndsWork f → r ≡ Err f → DoesAtOnce Is a b r
-written_partly Is all after f a b r done sends ends is =
+    → Sends a b all after [] → 0 < length after → EndsWork f → r ≡ Err f → DoesAtOnce Is a b r
+written_partly Is all after f a b r done sends more ends is =
     let whole : all ≡ sends.sent ++ after = sym (append-nil all) ∙ sends.whole in
-    subst (DoesAtOnce Is a b) (sym is) (inl (ends, inr (sends.sent, after, subst (λ x. Is (Printed x)) (sym done.2 ∙ whole) done.1, sends.written)))
+    subst (DoesAtOnce Is a b) (sym is) (inl (ends, inr (sends.sent, after, more, subst (λ x. Is (Printed x)) (sym done.2 ∙ whole) done.1, sends.written)))
+
+-- the same of what prints nothing
+pub nothing_found : (Is : Answer → Type 0) (f g : Failure) (a b : Known) (r : Result ℕ Failure) → Is (answer_of f)
+    → (g ≡ f) ⊎ (EndsWork f × EndsWork g) → r ≡ Err g → b ≡ a → FindsAtOnce Is a b r
+nothing_found Is f g a b r found (inl same) is kept = subst (FindsAtOnce Is a b) (sym is) (subst (λ h. Is (answer_of h)) (sym same) found, kept)
+nothing_found Is f g a b r found (inr ends) is kept =
+    subst (FindsAtOnce Is a b) (sym is) (subst Is (ended_answer f ends.0 ∙ sym (ended_answer g ends.1)) found, kept)
+
+pub found_at_once : (Is : Answer → Type 0) (a b : Known) (r : Result ℕ Failure) → Is (Printed []) → b ≡ a → r ≡ Ok 0 → FindsAtOnce Is a b r
+found_at_once Is a b r found kept is = subst (FindsAtOnce Is a b) (sym is) (found, kept, refl)
+
+found_so : (Is : Answer → Type 0) (a b : Known) (r : Result ℕ Failure) (status : ℕ) → FindsAtOnce Is a b r
+    → MatchResult r (λ s. status ≡ s) (λ f. status ≡ exit_status (answer_of f)) → Gives Is a b status
+found_so Is a b (Ok s) status found is =
+    (Printed [], found.0, (subst (λ x. Appends a x []) (sym found.1) (Appends-nil a), is ∙ found.2))
+found_so Is a b (Err f) status found is =
+    (answer_of f, found.0, subst (λ x. Gave (answer_of f) a x status) (sym found.1) (gave (answer_of f) a status f refl is))
+
+-- The program gives an answer if it can't print, and else it may end early.
+ended_by : (may : Bool) (Is : Answer → Type 0) (a b : Known) (r : Result ℕ Failure) (status : ℕ) → DoesAtOnce Is a b r → (may ≡ false → FindsAtOnce Is a b r)
+    → MatchResult r (λ s. status ≡ s) (λ f. status ≡ exit_status (answer_of f)) → (when may then Ends Is a b else Gives Is a b) status
+ended_by true Is a b r status does finds is = ended_so Is a b r status does is
+ended_by false Is a b r status does finds is = found_so Is a b r status (finds refl) is
 
 -- ---- the program's end
-
-lines_ended_in : (known : Known) (options : Options) (words : List (List ℕ)) (a b : Known) (r : Result ℕ Failure) (status : ℕ)
-    → IfSome known (λ bytes. LinesEnd options words bytes a b r) → MatchResult r (λ done. status ≡ done) (λ f. status ≡ exit_status (answer_of f))
-    → IfSome known (λ bytes. LinesEndWith options words bytes a b status)
-lines_ended_in None options words a b r status ends is = tt
-lines_ended_in (Some bytes) options words a b r status ends is = (r, ends, is)
 
 -- what holds with --lines, and what does without
 by_lines : (is : Bool) {P Q : Type 0} → (is ≡ true → P) → (is ≡ false → Q) → MatchBool is P Q
 by_lines true p q = p refl
 by_lines false p q = q refl
 
-pub lines_ended : (known : Known) (options : Options) (words : List (List ℕ)) (a b : Known) (r : Result ℕ Failure) (status : ℕ) → options.reads_lines ≡ true
-    → IfSome known (λ bytes. LinesEnd options words bytes a b r) → MatchResult r (λ done. status ≡ done) (λ f. status ≡ exit_status (answer_of f))
-    → CommandEnds options words known a b status
-lines_ended known options words a b r status reads ends is =
-    by_lines options.reads_lines (λ _. lines_ended_in known options words a b r status ends is) (λ none. absurd (false≢true (sym none ∙ reads)))
+pub lines_ended : (known left : Known) (options : Options) (words : List (List ℕ)) (a b : Known) (r : Result ℕ Failure) (status : ℕ)
+    → options.reads_lines ≡ true → LinesEnd options words known left a b r
+    → MatchResult r (λ done. status ≡ done) (λ f. status ≡ exit_status (answer_of f))
+    → CommandEnds options words known left a b status
+lines_ended known left options words a b r status reads ends is =
+    by_lines options.reads_lines (λ _. (r, ends, is)) (λ none. absurd (false≢true (sym none ∙ reads)))
 
-pub answer_ended : (known : Known) (options : Options) (words : List (List ℕ)) (a b : Known) (r : Result ℕ Failure) (status : ℕ) → options.reads_lines ≡ false
-    → DoesAtOnce (Answers options words) a b r → MatchResult r (λ done. status ≡ done) (λ f. status ≡ exit_status (answer_of f))
-    → CommandEnds options words known a b status
-answer_ended known options words a b r status none done is =
-    by_lines options.reads_lines (λ reads. absurd (false≢true (sym none ∙ reads))) (λ _. ended_so (Answers options words) a b r status done is)
+pub answer_ended : (known left : Known) (options : Options) (words : List (List ℕ)) (a b : Known) (r : Result ℕ Failure) (status : ℕ)
+    → options.reads_lines ≡ false → left ≡ known → DoesAtOnce (Answers options words) a b r
+    → (may_print options words ≡ false → FindsAtOnce (Answers options words) a b r) → MatchResult r (λ done. status ≡ done) (λ f. status ≡ exit_status (answer_of f))
+    → CommandEnds options words known left a b status
+answer_ended known left options words a b r status none kept does finds is =
+    by_lines options.reads_lines (λ reads. absurd (false≢true (sym none ∙ reads)))
+    (λ _. (ended_by (may_print options words) (Answers options words) a b r status does finds is, kept))
 
 -- the words asked for these options and this command
-pub asked_for : (words command : List (List ℕ)) (options : Options) (known a b : Known) (status : ℕ) → asked words ≡ record { options = options; command = command }
-    → CommandEnds options command known a b status → ProgramEnds words known a b status
-asked_for words command options known a b status is ends =
-    subst (λ (r : Request). CommandEnds r.options r.command known a b status) (sym is) ends
+pub asked_for : (words texts : List (List ℕ)) (options : Options) (o : Option (Bor (List ℕ))) (name : Bor (List ℕ)) (known left a b : Known) (status : ℕ)
+    → asked words ≡ record { options = options; command = command_of (option_map (λ w. w.now) o) texts } → o ≡ Some name
+    → CommandEnds options (name.now ∷ texts) known left a b status → ProgramEnds words known left a b status
+asked_for words texts options o name known left a b status is some ends =
+    subst (λ (r : Request). CommandEnds r.options r.command known left a b status)
+    (sym (is ∙ ap (λ x. record { options = options; command = command_of (option_map (λ w. w.now) x) texts }) some)) ends
 
-nothing_answered : (Is : Answer → Type 0) (f : Failure) (a : Known) (status : ℕ) → EndsWork f → status ≡ exit_status (answer_of f) → Ends Is a a status
-nothing_answered Is f a status ends is = inr (is ∙ ended_rejected f ends, inl refl)
-
-lines_unread : (known : Known) (options : Options) (words : List (List ℕ)) (f : Failure) (a : Known) (status : ℕ) → EndsWork f
-    → status ≡ exit_status (answer_of f) → IfSome known (λ bytes. LinesEndWith options words bytes a a status)
-lines_unread None options words f a status ends is = tt
-lines_unread (Some bytes) options words f a status ends is = (Err f, inr (inl ends, refl), is)
-
--- the words were not read, since the work ended
-pub nothing_read : (words : List (List ℕ)) (f : Failure) (known a : Known) (status : ℕ) → EndsWork f → status ≡ exit_status (answer_of f)
-    → ProgramEnds words known a a status
-nothing_read words f known a status ends is = by_lines (asked words).options.reads_lines
-    (λ _. lines_unread known (asked words).options (asked words).command f a status ends is)
-    (λ _. nothing_answered (Answers (asked words).options (asked words).command) f a status ends is)
+-- they asked for no command
+pub asked_nothing : (words texts : List (List ℕ)) (options : Options) (o : Option (Bor (List ℕ))) (known a : Known) (status : ℕ)
+    → asked words ≡ record { options = options; command = command_of (option_map (λ w. w.now) o) texts } → o ≡ None
+    → status ≡ 2 → ProgramEnds words known known a a status
+asked_nothing words texts options o known a status is none two =
+    subst (λ (r : Request). CommandEnds r.options r.command known known a a status)
+    (sym (is ∙ ap (λ x. record { options = options; command = command_of (option_map (λ w. w.now) x) texts }) none))
+    (by_lines options.reads_lines
+    (λ _. (Err failures.Usage, inr (inr (either _ NamesNothing (TasksOf options.mode []) (Err Unknown) refl refl), refl, refl), two))
+    (λ _. ((Unknown, either _ IsUnknown (AnswersWords options.mode []) Unknown refl refl, (refl, two)), refl)))
 
 -- ---- tails
 

@@ -1,6 +1,6 @@
 -- What `uri edit` makes of a reference, in the order of docs/PROGRAM.md.
-use Rattle.std.specs.Prelude.{◌≡◌, ◌⊎◌, ℕ, ◌==◌, ◌≤◌, List, [], ◌∷◌, ◌++◌, drop, length, map, flat_map, bytes_eq, codes, if◌then◌else◌, Option, Some, None, Result, Ok, Err}
-use Rattle.std.specs.List.{join_with_byte}
+use Rattle.std.specs.Prelude.{◌≡◌, ◌⊎◌, ℕ, ◌==◌, ◌≤◌, Bool, true, false, List, [], ◌∷◌, ◌++◌, drop, length, map, flat_map, bytes_eq, codes, if◌then◌else◌, Option, Some, None, is_some, Result, Ok, Err}
+use Rattle.std.specs.List.{join_with_byte, list_all}
 use Rattle.std.specs.Option.{option_and_then, option_map}
 use Rattle.std.specs.Result.{result_ok}
 use Rattle.uriparse.specs.Authority as authority
@@ -124,6 +124,23 @@ value_of components.Path t = option_map values.Path (result_ok (path.reading t))
 value_of components.Query t = option_map values.Query (result_ok (query.reading t))
 value_of components.Fragment t = option_map values.Fragment (result_ok (fragment.reading t))
 
+-- a name as the query's text of one pair: a "&" or a "=" in it becomes an escape
+abbrev pub byte_in_name : ℕ → List ℕ
+byte_in_name b = if b == ampersand then codes "%26" else if b == equals_sign then codes "%3D" else b ∷ []
+
+abbrev pub name_text : List ℕ → List ℕ
+name_text name = flat_map byte_in_name name
+
+-- whether the value of the edit can be read, if it has one
+abbrev pub is_readable : Edit → Bool
+is_readable (Set c t) = is_some (value_of c t)
+is_readable (DropPair name) = is_some (result_ok (query.reading (name_text name)))
+is_readable e = true
+
+-- the same of all these edits
+abbrev pub are_readable : List Edit → Bool
+are_readable es = list_all is_readable es
+
 -- the reference with this component, if it may have it
 abbrev pub set_to : Value → Parts → Option Parts
 set_to (values.Scheme s) p = result_ok (edited p (edits.Scheme (Some s)))
@@ -145,13 +162,6 @@ without dropped.Port p = result_ok (with_port p None)
 without dropped.DefaultPort p = Some (without_default_port p)
 without dropped.Query p = result_ok (edited p (edits.Query None))
 without dropped.Fragment p = result_ok (edited p (edits.Fragment None))
-
--- a name as the query's text of one pair: a "&" or a "=" in it becomes an escape
-abbrev pub byte_in_name : ℕ → List ℕ
-byte_in_name b = if b == ampersand then codes "%26" else if b == equals_sign then codes "%3D" else b ∷ []
-
-abbrev pub name_text : List ℕ → List ℕ
-name_text name = flat_map byte_in_name name
 
 -- the reference without the query's pairs of the names in this text
 abbrev pub without_pairs : List ℕ → Parts → Parts
@@ -216,14 +226,15 @@ pub record DropsPairs (name : List ℕ) (changes : List Change) (text : List ℕ
   pub begin : map edit_of changes ≡ map DropPair names ++ map edit_of (drop count changes)
   pub text_is : text ≡ join_with_byte ampersand (map name_text (name ∷ names))
 
--- The edit and so many of the changes make this of a reference.
+-- The edit and so many of the changes are readable, and make this of a reference.
 pub record Reads (e : Edit) (changes : List Change) (effect : Parts → Option Parts) (count : ℕ) : Type 0 where
   pub within : count ≤ length changes
+  pub readable : are_readable (e ∷ map edit_of changes) ≡ are_readable (map edit_of (drop count changes))
   pub makes : (p : Parts) → all_made (e ∷ map edit_of changes) p ≡ option_and_then (all_made (map edit_of (drop count changes))) (effect p)
 
--- They are rejected whatever the reference is, or memory ran out.
+-- A value of theirs can't be read, or memory ran out.
 abbrev pub ReadsNone : Edit → List Change → URIReferenceError → Type 0
-ReadsNone e changes x = (x ≡ references.Path OutOfMemory) ⊎ ((p : Parts) → all_made (e ∷ map edit_of changes) p ≡ None)
+ReadsNone e changes x = (x ≡ references.Path OutOfMemory) ⊎ (are_readable (e ∷ map edit_of changes) ≡ false)
 
 abbrev pub ReadsNames : List ℕ → List Change → Result (List ℕ × ℕ) URIReferenceError → Type 0
 ReadsNames name changes (Ok x) = Reads (DropPair name) changes (λ p. Some (without_pairs x.0 p)) x.1

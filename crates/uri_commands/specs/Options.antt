@@ -118,6 +118,11 @@ starts_plain (word ∷ words) = is_plain word
 
 -- ---- words of private functions' clauses alone
 
+-- a command of this name, if it has one, and these texts
+abbrev pub command_of : Option (List ℕ) → List (List ℕ) → List (List ℕ)
+command_of None texts = []
+command_of (Some name) texts = name ∷ texts
+
 -- the options with the column of the first of these words
 abbrev pub with_column_in : Options → List (List ℕ) → Option Options
 with_column_in o [] = None

@@ -1,8 +1,8 @@
 -- What each command prints, in the order of docs/PROGRAM.md.
-use Rattle.std.specs.Prelude.{◌≡◌, ◌⊎◌, ℕ, ◌==◌, ◌||◌, Bool, true, false, not, List, [], ◌∷◌, ◌++◌, flat_map, map, bytes_eq, codes, decimal, if◌then◌else◌, Option, Some, None, is_some, unwrap_or, Result, Ok, Err, MatchOption, MatchResult, Vec}
+use Rattle.std.specs.Prelude.{◌≡◌, ◌⊎◌, ℕ, ◌<◌, ◌==◌, ◌&&◌, ◌||◌, Bool, true, false, not, List, [], ◌∷◌, ◌++◌, flat_map, length, map, bytes_eq, codes, decimal, if◌then◌else◌, Option, Some, None, is_some, unwrap_or, Result, Ok, Err, MatchOption, MatchResult, Vec}
 use Rattle.std.specs.declared.alloc.Global.{Global}
 use Rattle.std.specs.Io.KnownBytes.{Appends}
-use Rattle.std.specs.List.{join_with_byte, slice_split}
+use Rattle.std.specs.List.{join_with_byte, list_any, slice_split}
 use Rattle.std.specs.Option.{IsSomeAnd, option_and_then, option_map}
 use Rattle.uriparse.specs.Bytes.{equals_sign, number_sign, question_mark}
 use Rattle.uriparse.specs.Authority.{AuthorityParts}
@@ -44,7 +44,7 @@ use Rattle.uriparse.specs.Within.{IsWithin}
 use Rattle.uriparse.specs.declared.uri.error.URIError.{URIError}
 use Rattle.uriparse.specs.declared.uri.error.URIError.TheVariants as uris
 use Rattle.uri_commands.specs.Columns.{tab}
-use Rattle.uri_commands.specs.Edits.{Edit, all_made, edits_of, steps_made}
+use Rattle.uri_commands.specs.Edits.{Edit, all_made, are_readable, edits_of, steps_made}
 use Rattle.uri_commands.specs.Help.{page_on, summaries, version}
 use Rattle.uri_commands.specs.Json.{kind_name, object}
 use Rattle.uri_commands.specs.Lines.{newline}
@@ -489,6 +489,26 @@ AnswersWords mode (name ∷ texts) = AnswersAny mode name texts
 abbrev pub Answers : Options → List (List ℕ) → Answer → Type 0
 Answers options words = when is_for_lines options || not (may_explain options words) then IsUnknown else AnswersWords options.mode words
 
+-- the names of the commands that print something
+abbrev pub printing : List (List ℕ)
+printing =
+    codes "parse" ∷ codes "tail" ∷ codes "get" ∷ codes "normalize" ∷ codes "equal" ∷ codes "resolve" ∷ codes "relativize"
+    ∷ codes "decode" ∷ codes "encode" ∷ codes "escape" ∷ codes "pairs" ∷ codes "pair" ∷ codes "file" ∷ codes "edit"
+    ∷ codes "help" ∷ codes "--help" ∷ codes "--version" ∷ []
+
+-- whether the command of this name prints something
+abbrev pub prints : Mode → List ℕ → Bool
+prints modes.Plain name = list_any (bytes_eq name) printing
+prints modes.Json name = bytes_eq name (codes "parse")
+prints modes.Trim name = bytes_eq name (codes "escape")
+prints modes.DropDefaultPort name = bytes_eq name (codes "normalize")
+prints mode name = false
+
+-- the same of these words that follow these options
+abbrev pub may_print : Options → List (List ℕ) → Bool
+may_print options [] = false
+may_print options (name ∷ texts) = not (is_for_lines options || not (may_explain options (name ∷ texts))) && prints options.mode name
+
 -- ---- what was done
 
 -- memory ran out in an edit
@@ -518,12 +538,12 @@ answer_of failures.Outside = Negative
 answer_of f = Rejected
 
 -- The command gave such an answer: it printed these bytes, or it failed so and printed nothing. If its work ended early, nothing is known of
--- what it printed.
+-- what it printed; it prints to memory, and that isn't written then.
 abbrev pub Does : (Answer → Type 0) → Option (List ℕ) → Option (List ℕ) → Result (Unit {0}) Failure → Type 0
 Does Is old new (Ok _) = (bytes : List ℕ) × Is (Printed bytes) × Appends old new bytes
 Does Is old new (Err f) = EndsWork f ⊎ (Is (answer_of f) × (new ≡ old))
 
--- The same of a command that never prints. It allocates nothing, so its work never ends early.
+-- The same of a command that prints nothing. It allocates nothing, so its work never ends early.
 abbrev pub Finds : (Answer → Type 0) → Result (Unit {0}) Failure → Type 0
 Finds Is (Ok _) = Is (Printed [])
 Finds Is (Err f) = Is (answer_of f)
@@ -537,13 +557,17 @@ Gave Rejected old new status = (new ≡ old) × (status ≡ 1)
 Gave Negative old new status = (new ≡ old) × (status ≡ 3)
 Gave Unknown old new status = (new ≡ old) × (status ≡ 2)
 
--- the first of the bytes of such an answer went out, or nothing
+-- the first of the bytes of such an answer went out, but not all of them, or nothing
 abbrev pub Starts : (Answer → Type 0) → Option (List ℕ) → Option (List ℕ) → Type 0
-Starts Is old new = (new ≡ old) ⊎ ((first rest : List ℕ) × Is (Printed (first ++ rest)) × Appends old new first)
+Starts Is old new = (new ≡ old) ⊎ ((first rest : List ℕ) × (0 < length rest) × Is (Printed (first ++ rest)) × Appends old new first)
 
--- The program gave such an answer. If memory ran out or a write failed, the status is 1, and what went out is the beginning of an answer.
+-- the program gave such an answer
+abbrev pub Gives : (Answer → Type 0) → Option (List ℕ) → Option (List ℕ) → ℕ → Type 0
+Gives Is old new status = (a : Answer) × Is a × Gave a old new status
+
+-- The same, or its work ended early: the status is 1, and what went out is not a whole answer.
 abbrev pub Ends : (Answer → Type 0) → Option (List ℕ) → Option (List ℕ) → ℕ → Type 0
-Ends Is old new status = ((a : Answer) × Is a × Gave a old new status) ⊎ ((status ≡ 1) × Starts Is old new)
+Ends Is old new status = Gives Is old new status ⊎ ((status ≡ 1) × Starts Is old new)
 
 -- the status of an answer
 abbrev pub exit_status : Answer → ℕ
@@ -563,6 +587,11 @@ Writes bytes old new (Err f) = EndsWork f
 abbrev pub DoesAtOnce : (Answer → Type 0) → Option (List ℕ) → Option (List ℕ) → Result ℕ Failure → Type 0
 DoesAtOnce Is old new (Ok status) = (bytes : List ℕ) × Is (Printed bytes) × Appends old new bytes × (status ≡ 0)
 DoesAtOnce Is old new (Err f) = (EndsWork f × Starts Is old new) ⊎ (Is (answer_of f) × (new ≡ old))
+
+-- `Finds` of the same, and nothing is written
+abbrev pub FindsAtOnce : (Answer → Type 0) → Option (List ℕ) → Option (List ℕ) → Result ℕ Failure → Type 0
+FindsAtOnce Is old new (Ok status) = Is (Printed []) × (new ≡ old) × (status ≡ 0)
+FindsAtOnce Is old new (Err f) = Is (answer_of f) × (new ≡ old)
 
 -- the work ended
 abbrev pub Ended : Result (Unit {0}) Failure → Type 0
@@ -612,10 +641,10 @@ abbrev pub Makes : Option Parts → Parts → Result (Unit {0}) EditError → Ty
 Makes made new (Ok _) = made ≡ Some new
 Makes made new (Err e) = RunsOut e ⊎ (made ≡ None)
 
--- The steps make what the edits make. Or the edits are rejected whatever the reference is, or memory ran out.
+-- The values of the edits are read, and the steps make what the edits make. Or a value can't be read, or memory ran out.
 abbrev pub ReadsChanges : List Edit → Result (Vec Step Global) Failure → Type 0
-ReadsChanges es (Ok steps) = (p : Parts) → steps_made steps.items p ≡ all_made es p
-ReadsChanges es (Err f) = EndsWork f ⊎ ((answer_of f ≡ Rejected) × ((p : Parts) → all_made es p ≡ None))
+ReadsChanges es (Ok steps) = (are_readable es ≡ true) × ((p : Parts) → steps_made steps.items p ≡ all_made es p)
+ReadsChanges es (Err f) = EndsWork f ⊎ ((answer_of f ≡ Rejected) × (are_readable es ≡ false))
 
 -- The words are no edits, which is a usage error, or memory ran out.
 abbrev pub NamesNone : Result (Vec Step Global) Failure → Type 0

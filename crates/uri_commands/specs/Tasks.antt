@@ -1,13 +1,13 @@
 -- Which task the words of --lines name, in the order of docs/PROGRAM.md.
-use Rattle.std.specs.Prelude.{◌≡◌, ◌⊎◌, ℕ, ◌&&◌, ◌||◌, Bool, true, false, not, List, [], ◌∷◌, bytes_eq, codes, Option, None, is_some, IfSome, Result, Ok, Err, MatchOption, MatchResult, Vec}
+use Rattle.std.specs.Prelude.{◌≡◌, ◌⊎◌, ℕ, ◌&&◌, ◌||◌, Bool, true, false, not, List, [], ◌∷◌, bytes_eq, codes, Option, is_some, IfSome, Result, Ok, Err, MatchOption, MatchResult, Vec}
 use Rattle.std.specs.Bool.{MatchBool}
 use Rattle.std.specs.Borrow.{Bor}
 use Rattle.std.specs.declared.alloc.Global.{Global}
 use Rattle.uriparse.specs.Host as host
 use Rattle.uriparse.specs.Reference.{Parts}
-use Rattle.uri_commands.specs.Edits.{Edit, all_made, edits_of, steps_made}
+use Rattle.uri_commands.specs.Edits.{Edit, all_made, are_readable, edits_of, steps_made}
 use Rattle.uri_commands.specs.Options.{asked}
-use Rattle.uri_commands.specs.Output.{Answer, Answers, Ends, EndsWork, OfUriOr, Rejected, Unknown, answer_of, exit_status, may_explain, parts_named, when◌then◌else◌}
+use Rattle.uri_commands.specs.Output.{Answer, Answers, Ends, EndsWork, Gives, OfUriOr, Rejected, Unknown, answer_of, exit_status, may_explain, may_print, parts_named, when◌then◌else◌}
 use Rattle.uri_commands.specs.Outputs.{RunsOrStops}
 use Rattle.uri_commands.specs.declared.commands.Task.{Task}
 use Rattle.uri_commands.specs.declared.commands.Task.TheVariants as tasks
@@ -25,6 +25,10 @@ Named = Result Task Answer
 -- no command has these words
 abbrev pub NamesNothing : Named → Type 0
 NamesNothing n = n ≡ Err Unknown
+
+-- the words of the command are rejected
+abbrev pub NamesRejected : Named → Type 0
+NamesRejected n = n ≡ Err Rejected
 
 -- this task
 abbrev pub Names : Task → Named → Type 0
@@ -62,11 +66,13 @@ NamesWithin base = NamesFor base (λ p. tasks.Within (record { text = base; part
 abbrev pub NamesHostWithin : List ℕ → Named → Type 0
 NamesHostWithin domain n = MatchResult (host.reading domain) (λ d. Names (tasks.HostWithin d) n) (λ e. n ≡ Err Rejected)
 
--- edit EDIT..: steps that make what the edits make, unless these are rejected whatever the reference is
+-- edit EDIT..: steps that make what the edits make
+abbrev pub NamesSteps : List Edit → Named → Type 0
+NamesSteps es n = (steps : Vec Step Global) × ((p : Parts) → steps_made steps.items p ≡ all_made es p) × Names (tasks.Edit steps) n
+
+-- The edits are rejected if a value can't be read, and for no other reason.
 abbrev pub NamesEdits : List Edit → Named → Type 0
-NamesEdits es n =
-    ((steps : Vec Step Global) × ((p : Parts) → steps_made steps.items p ≡ all_made es p) × Names (tasks.Edit steps) n)
-    ⊎ (((p : Parts) → all_made es p ≡ None) × (n ≡ Err Rejected))
+NamesEdits es = when are_readable es then NamesSteps es else NamesRejected
 
 abbrev pub NamesEdit : List (List ℕ) → Named → Type 0
 NamesEdit words n = MatchOption (edits_of words) (NamesNothing n) (λ es. NamesEdits es n)
@@ -126,39 +132,47 @@ abbrev pub Tasks : Options → List (List ℕ) → Named → Type 0
 Tasks options words =
     when not (may_explain options words) || (is_quiet options.mode && is_some options.columns) then NamesNothing else TasksOf options.mode words
 
--- what was read of words, unless memory ran out
-abbrev pub Reads : (Named → Type 0) → Result Task Failure → Type 0
-Reads Is (Ok task) = Is (Ok task)
-Reads Is (Err f) = EndsWork f ⊎ Is (Err (answer_of f))
+-- whether memory is taken to read the task of this name: for the parts of `get`, the base of `relativize` and the values of `edit`
+abbrev pub takes_memory : Mode → List ℕ → Bool
+takes_memory modes.Plain name = bytes_eq name (codes "get") || bytes_eq name (codes "relativize") || bytes_eq name (codes "edit")
+takes_memory mode name = false
+
+-- the same of these words
+abbrev pub take_memory : Mode → List (List ℕ) → Bool
+take_memory mode [] = false
+take_memory mode (name ∷ texts) = takes_memory mode name
+
+-- what was read of words, unless memory ran out, where it is taken
+abbrev pub Reads : Bool → (Named → Type 0) → Result Task Failure → Type 0
+Reads takes Is (Ok task) = Is (Ok task)
+Reads takes Is (Err f) = ((takes ≡ true) × EndsWork f) ⊎ Is (Err (answer_of f))
 
 -- ---- lines
 
--- How --lines ends with these words and an input of these bytes. The words name a task, which runs for the lines, or its work ends early. Or no line is
--- read and nothing is written: the words name no task, or memory runs out.
-abbrev pub LinesEnd : Options → List (List ℕ) → List ℕ → Option (List ℕ) → Option (List ℕ) → Result ℕ Failure → Type 0
-LinesEnd options words bytes old new result =
-    ((task : Task) × Tasks options words (Ok task) × RunsOrStops task options.columns options.end bytes old new result)
-    ⊎ EndsUnread (Tasks options words) old new result
-  where
-    EndsUnread : (Named → Type 0) → Option (List ℕ) → Option (List ℕ) → Result ℕ Failure → Type 0
-    EndsUnread Is old new (Ok status) = ⊥
-    EndsUnread Is old new (Err f) = (EndsWork f ⊎ Is (Err (answer_of f))) × (new ≡ old)
+-- How --lines ends with these words, on an input of these bytes, if they are known, of which the last bytes are left. The words name a task, which runs for
+-- the lines, or its work ends early. Or nothing is read and nothing is written: the words name no task, or memory ran out.
+abbrev pub LinesEnd : Options → List (List ℕ) → Option (List ℕ) → Option (List ℕ) → Option (List ℕ) → Option (List ℕ) → Result ℕ Failure → Type 0
+LinesEnd options words input left old new result =
+    ((task : Task) × Tasks options words (Ok task)
+    × IfSome input (λ bytes. RunsOrStops task options.columns options.end bytes old new result))
+    ⊎ (MatchResult result (λ status. ⊥) (λ f. Reads (take_memory options.mode words) (Tasks options words) (Err f)) × (left ≡ input) × (new ≡ old))
 
 -- the same with the exit status of the program
-abbrev pub LinesEndWith : Options → List (List ℕ) → List ℕ → Option (List ℕ) → Option (List ℕ) → ℕ → Type 0
-LinesEndWith options words bytes old new status =
-    (result : Result ℕ Failure) × LinesEnd options words bytes old new result
+abbrev pub LinesEndWith : Options → List (List ℕ) → Option (List ℕ) → Option (List ℕ) → Option (List ℕ) → Option (List ℕ) → ℕ → Type 0
+LinesEndWith options words input left old new status =
+    (result : Result ℕ Failure) × LinesEnd options words input left old new result
     × MatchResult result (λ done. status ≡ done) (λ f. status ≡ exit_status (answer_of f))
 
 -- ---- the program
 
--- How the program ends with these options and this command, on an input of these bytes, if they are known. Only --lines reads the input.
-abbrev pub CommandEnds : Options → List (List ℕ) → Option (List ℕ) → Option (List ℕ) → Option (List ℕ) → ℕ → Type 0
-CommandEnds options command input old new status =
+-- How the program ends with these options and this command, on such an input. Only --lines reads it. Only what may print something can end early.
+abbrev pub CommandEnds : Options → List (List ℕ) → Option (List ℕ) → Option (List ℕ) → Option (List ℕ) → Option (List ℕ) → ℕ → Type 0
+CommandEnds options command input left old new status =
     MatchBool options.reads_lines
-    (IfSome input (λ bytes. LinesEndWith options command bytes old new status))
-    (Ends (Answers options command) old new status)
+    (LinesEndWith options command input left old new status)
+    ((when may_print options command then Ends (Answers options command) old new else Gives (Answers options command) old new) status
+    × (left ≡ input))
 
 -- the same with any words that follow the program's name
-abbrev pub ProgramEnds : List (List ℕ) → Option (List ℕ) → Option (List ℕ) → Option (List ℕ) → ℕ → Type 0
+abbrev pub ProgramEnds : List (List ℕ) → Option (List ℕ) → Option (List ℕ) → Option (List ℕ) → Option (List ℕ) → ℕ → Type 0
 ProgramEnds words = CommandEnds (asked words).options (asked words).command

@@ -1,12 +1,13 @@
 //! The table of the commands: what `uri help` says of each, the words that it takes, and how it
 //! runs on the texts among its words and on each line of an input.
 
-ghost use Rattle.std.specs.Prelude.{◌≡◌, ◌<◌, ◌∷◌, [], IfSome, map, slice_get};
+ghost use Rattle.std.specs.Prelude.{◌≡◌, ◌<◌, ◌∷◌, [], IfSome, false, map, slice_get, true};
 ghost use Rattle.std.specs.Option.{option_map};
 ghost use Rattle.uri_commands.specs.Help.{topics};
 ghost use Rattle.uri_commands.specs.Output as spec;
 ghost use Rattle.uri_commands.specs.Outputs.{count_of, width_of};
-ghost use Rattle.uri_commands.specs.Tasks.{NamesEdit, NamesGet, Reads, Tasks, TasksAny, TasksNamed, TasksTo};
+ghost use Rattle.uri_commands.specs.declared.options.Mode.TheVariants.{Plain};
+ghost use Rattle.uri_commands.specs.Tasks.{NamesEdit, NamesGet, Reads, Tasks, TasksAny, TasksNamed, TasksTo, takes_memory};
 
 use crate::decode::{self, decode};
 use crate::edit::{self, Step, edit, edit_line, read_edits};
@@ -84,32 +85,29 @@ fn explains(mode: Mode, name: &str) -> bool
     }
 }
 
-/// Whether `--explain` is absent, or may precede the command of these words.
-fn may_explain(options: Options, words: &[&str]) -> bool
-    ensures { result ≡ spec.may_explain options (map (λ w. w.now) words.now) }
+/// Whether `--explain` is absent, or may precede the command of this name.
+fn may_explain(options: Options, name: &str) -> bool
+    ensures { result ≡ spec.may_explain options (name.now ∷ []) }
 {
-    match words {
-        [name, ..] => !options.explains || explains(options.mode, name),
-        [] => !options.explains,
-    }
+    !options.explains || explains(options.mode, name)
 }
 
-/// Runs the command of these words on the texts among them.
+/// Runs the command of this name on these texts.
 pub fn run_texts<O: Write>(
     alloc: Global,
     options: Options,
-    words: &[&str],
+    name: &str,
+    texts: &[&str],
     out: &mut O,
 ) -> Result<(), Failure>
-    ensures { spec.Does (spec.Answers options (map (λ w. w.now) words.now)) (O.contents out.old) (O.contents out.new) result }
+    ensures does { spec.Does (spec.Answers options (name.now ∷ map (λ w. w.now) texts.now)) (O.contents out.old) (O.contents out.new) result }
+    ensures finds { spec.may_print options (name.now ∷ map (λ w. w.now) texts.now) ≡ false →
+        spec.Finds (spec.Answers options (name.now ∷ map (λ w. w.now) texts.now)) result × (O.contents out.new ≡ O.contents out.old) }
 {
-    if !may_explain(options, words) || options.is_for_lines() {
+    if !may_explain(options, name) || options.is_for_lines() {
         return Err(Failure::Usage);
     }
-    match words {
-        [name, texts @ ..] => run_any(alloc, options.mode, name, texts, out),
-        [] => Err(Failure::Usage),
-    }
+    run_any(alloc, options.mode, name, texts, out)
 }
 
 /// Runs the command of this name on the words that follow it.
@@ -120,7 +118,9 @@ fn run_any<O: Write>(
     texts: &[&str],
     out: &mut O,
 ) -> Result<(), Failure>
-    ensures { spec.Does (spec.AnswersAny mode name.now (map (λ w. w.now) texts.now)) (O.contents out.old) (O.contents out.new) result }
+    ensures does { spec.Does (spec.AnswersAny mode name.now (map (λ w. w.now) texts.now)) (O.contents out.old) (O.contents out.new) result }
+    ensures finds { spec.prints mode name.now ≡ false →
+        spec.Finds (spec.AnswersAny mode name.now (map (λ w. w.now) texts.now)) result × (O.contents out.new ≡ O.contents out.old) }
 {
     match (mode, name) {
         (Mode::Plain, "edit") => run_edit(alloc, texts, out),
@@ -146,7 +146,9 @@ fn run_named<O: Write>(
     texts: &[&str],
     out: &mut O,
 ) -> Result<(), Failure>
-    ensures { spec.Does (spec.AnswersTo mode name.now (map (λ w. w.now) texts.now)) (O.contents out.old) (O.contents out.new) result }
+    ensures does { spec.Does (spec.AnswersTo mode name.now (map (λ w. w.now) texts.now)) (O.contents out.old) (O.contents out.new) result }
+    ensures finds { spec.prints mode name.now ≡ false →
+        spec.Finds (spec.AnswersTo mode name.now (map (λ w. w.now) texts.now)) result × (O.contents out.new ≡ O.contents out.old) }
 {
     match texts {
         [] => run_one_word(mode, name, out),
@@ -158,7 +160,9 @@ fn run_named<O: Write>(
 
 /// Runs the command that is this word alone.
 fn run_one_word<O: Write>(mode: Mode, name: &str, out: &mut O) -> Result<(), Failure>
-    ensures { spec.Does (spec.AnswersTo mode name.now []) (O.contents out.old) (O.contents out.new) result }
+    ensures does { spec.Does (spec.AnswersTo mode name.now []) (O.contents out.old) (O.contents out.new) result }
+    ensures finds { spec.prints mode name.now ≡ false →
+        spec.Finds (spec.AnswersTo mode name.now []) result × (O.contents out.new ≡ O.contents out.old) }
 {
     match (mode, name) {
         (Mode::Plain, "help") => Ok(help(out)?),
@@ -176,7 +180,9 @@ fn run_two_words<O: Write>(
     text: &str,
     out: &mut O,
 ) -> Result<(), Failure>
-    ensures { spec.Does (spec.AnswersTo mode name.now (text.now ∷ [])) (O.contents out.old) (O.contents out.new) result }
+    ensures does { spec.Does (spec.AnswersTo mode name.now (text.now ∷ [])) (O.contents out.old) (O.contents out.new) result }
+    ensures finds { spec.prints mode name.now ≡ false →
+        spec.Finds (spec.AnswersTo mode name.now (text.now ∷ [])) result × (O.contents out.new ≡ O.contents out.old) }
 {
     match (mode, name) {
         (Mode::Plain, _) => run_plain(alloc, name, text, out),
@@ -190,7 +196,9 @@ fn run_two_words<O: Write>(
 
 /// Runs the command of this name on the word that follows it, with `Mode::Plain`.
 fn run_plain<O: Write>(alloc: Global, name: &str, text: &str, out: &mut O) -> Result<(), Failure>
-    ensures { spec.Does (spec.AnswersNamed name.now (text.now ∷ [])) (O.contents out.old) (O.contents out.new) result }
+    ensures does { spec.Does (spec.AnswersNamed name.now (text.now ∷ [])) (O.contents out.old) (O.contents out.new) result }
+    ensures finds { spec.prints Plain name.now ≡ false →
+        spec.Finds (spec.AnswersNamed name.now (text.now ∷ [])) result × (O.contents out.new ≡ O.contents out.old) }
 {
     match name {
         "parse" => parse(alloc, text, out),
@@ -214,7 +222,9 @@ fn run_three_words<O: Write>(
     second: &str,
     out: &mut O,
 ) -> Result<(), Failure>
-    ensures { spec.Does (spec.AnswersTo mode name.now (first.now ∷ second.now ∷ [])) (O.contents out.old) (O.contents out.new) result }
+    ensures does { spec.Does (spec.AnswersTo mode name.now (first.now ∷ second.now ∷ [])) (O.contents out.old) (O.contents out.new) result }
+    ensures finds { spec.prints mode name.now ≡ false →
+        spec.Finds (spec.AnswersTo mode name.now (first.now ∷ second.now ∷ [])) result × (O.contents out.new ≡ O.contents out.old) }
 {
     match (mode, name) {
         (Mode::Plain, _) => run_plain_on_two(alloc, name, first, second, out),
@@ -231,7 +241,9 @@ fn run_plain_on_two<O: Write>(
     second: &str,
     out: &mut O,
 ) -> Result<(), Failure>
-    ensures { spec.Does (spec.AnswersNamed name.now (first.now ∷ second.now ∷ [])) (O.contents out.old) (O.contents out.new) result }
+    ensures does { spec.Does (spec.AnswersNamed name.now (first.now ∷ second.now ∷ [])) (O.contents out.old) (O.contents out.new) result }
+    ensures finds { spec.prints Plain name.now ≡ false →
+        spec.Finds (spec.AnswersNamed name.now (first.now ∷ second.now ∷ [])) result × (O.contents out.new ≡ O.contents out.old) }
 {
     match name {
         "get" => get_named(alloc, first, second, out),
@@ -294,18 +306,21 @@ pub enum Task<'w> {
 }
 
 impl<'w> Task<'w> {
-    /// Reads a task from the words of the command. A base is read here, before any line.
-    pub fn read(alloc: Global, options: Options, words: &[&'w str]) -> Result<Task<'w>, Failure>
-        ensures { Reads (Tasks options (map (λ w. w.now) words.now)) result }
+    /// Reads a task from the words of the command. A base is read here, before any line. Only `get`,
+    /// `relativize` and `edit` allocate.
+    pub fn read(
+        alloc: Global,
+        options: Options,
+        name: &str,
+        texts: &[&'w str],
+    ) -> Result<Task<'w>, Failure>
+        ensures { Reads (takes_memory options.mode name.now) (Tasks options (name.now ∷ map (λ w. w.now) texts.now)) result }
     {
         let is_quiet = matches!(options.mode, Mode::Quiet);
-        if !may_explain(options, words) || is_quiet && options.columns.is_some() {
+        if !may_explain(options, name) || is_quiet && options.columns.is_some() {
             return Err(Failure::Usage);
         }
-        match words {
-            [name, texts @ ..] => Task::read_any(alloc, options.mode, name, texts),
-            [] => Err(Failure::Usage),
-        }
+        Task::read_any(alloc, options.mode, name, texts)
     }
 
     /// The task of the command of this name with the words that follow it.
@@ -315,7 +330,7 @@ impl<'w> Task<'w> {
         name: &str,
         texts: &[&'w str],
     ) -> Result<Task<'w>, Failure>
-        ensures { Reads (TasksAny mode name.now (map (λ w. w.now) texts.now)) result }
+        ensures { Reads (takes_memory mode name.now) (TasksAny mode name.now (map (λ w. w.now) texts.now)) result }
     {
         match (mode, name) {
             (Mode::Plain, "edit") => Task::read_edit(alloc, texts),
@@ -326,7 +341,7 @@ impl<'w> Task<'w> {
     /// The task of `edit` with these edits.
     #[tactic(auto, using(crate::proofs::TaskLemmas::reads_steps, crate::proofs::TaskLemmas::reads_no_steps))]
     fn read_edit(alloc: Global, words: &[&'w str]) -> Result<Task<'w>, Failure>
-        ensures { Reads (NamesEdit (map (λ w. w.now) words.now)) result }
+        ensures { Reads true (NamesEdit (map (λ w. w.now) words.now)) result }
     {
         Ok(Task::Edit(read_edits(alloc, words)?))
     }
@@ -338,7 +353,7 @@ impl<'w> Task<'w> {
         name: &str,
         texts: &[&'w str],
     ) -> Result<Task<'w>, Failure>
-        ensures { Reads (TasksTo mode name.now (map (λ w. w.now) texts.now)) result }
+        ensures { Reads (takes_memory mode name.now) (TasksTo mode name.now (map (λ w. w.now) texts.now)) result }
     {
         match (mode, texts) {
             (_, []) => Task::read_one_word(mode, name),
@@ -349,7 +364,7 @@ impl<'w> Task<'w> {
 
     /// The task of the command that is this word alone.
     fn read_one_word(mode: Mode, name: &str) -> Result<Task<'w>, Failure>
-        ensures { Reads (TasksTo mode name.now []) result }
+        ensures { Reads (takes_memory mode name.now) (TasksTo mode name.now []) result }
     {
         match (mode, name) {
             (Mode::Plain, "parse") => Ok(Task::Parse),
@@ -368,7 +383,7 @@ impl<'w> Task<'w> {
     /// The task of the command of this name with the word that follows it.
     #[tactic(auto, using(crate::proofs::TaskLemmas::resolves, crate::proofs::TaskLemmas::relativizes, crate::proofs::TaskLemmas::not_relativized, crate::proofs::TaskLemmas::is_within, crate::proofs::TaskLemmas::base_rejected, crate::proofs::TaskLemmas::domain_read, crate::proofs::TaskLemmas::domain_rejected))]
     fn read_two_words(alloc: Global, name: &str, text: &'w str) -> Result<Task<'w>, Failure>
-        ensures { Reads (TasksNamed name.now (text.now ∷ [])) result }
+        ensures { Reads (takes_memory Plain name.now) (TasksNamed name.now (text.now ∷ [])) result }
     {
         match name {
             "get" => Task::read_get(alloc, text),
@@ -384,7 +399,7 @@ impl<'w> Task<'w> {
     /// The task of `get` with these names, which commas separate.
     #[tactic(auto, using(crate::proofs::TaskLemmas::gets_one, crate::proofs::TaskLemmas::gets_several, crate::proofs::TaskLemmas::gets_none))]
     fn read_get(alloc: Global, names: &str) -> Result<Task<'w>, Failure>
-        ensures { Reads (NamesGet names.now) result }
+        ensures { Reads true (NamesGet names.now) result }
     {
         let parts = read_parts(alloc, names)?;
         match parts.as_slice() {

@@ -158,21 +158,26 @@ fn explain_either<E: Write>(base: &str, reference: &str, err: &mut E) -> io::Res
     explain_reference("reference: ", reference.as_bytes(), err)
 }
 
-/// Explains why a text of the command of these words is rejected. Returns whether one is.
-fn explain_words<E: Write>(words: &[&str], err: &mut E) -> io::Result<bool> {
-    match words {
-        ["parse", text] => explain_reference("", text.as_bytes(), err),
-        ["resolve", base] => explain_base(base.as_bytes(), err),
-        ["resolve", base, reference] => explain_either(base, reference, err),
+/// Explains why a text of the command of this name is rejected. Returns whether one is.
+fn explain_texts<E: Write>(name: &str, texts: &[&str], err: &mut E) -> io::Result<bool> {
+    match (name, texts) {
+        ("parse", [text]) => explain_reference("", text.as_bytes(), err),
+        ("resolve", [base]) => explain_base(base.as_bytes(), err),
+        ("resolve", [base, reference]) => explain_either(base, reference, err),
         _ => Ok(false),
     }
 }
 
-/// Writes three lines on the text that the command of these words rejects: the text, a caret under
+/// Writes three lines on the text that the command of this name rejects: the text, a caret under
 /// the byte that its fault is about, and the fault. If the command fails for another reason, only
 /// that is written.
-pub fn explain<E: Write>(words: &[&str], failure: &Failure, err: &mut E) -> io::Result<()> {
-    if explain_words(words, err)? {
+pub fn explain<E: Write>(
+    name: &str,
+    texts: &[&str],
+    failure: &Failure,
+    err: &mut E,
+) -> io::Result<()> {
+    if explain_texts(name, texts, err)? {
         return Ok(());
     }
     writeln!(err, "{failure}")

@@ -37,7 +37,8 @@ The origin is scheme, host and port, by which RFC 6454 compares URIs, in one
 spelling: scheme and host in lower case, with no escape that isn't needed, and
 without a port that is the scheme's default one. It is absent without a host,
 or if neither the URI names a port nor its scheme has a default one, as file.
-`uri get authority` prints host and port as the text names them.
+`uri get authority` prints the authority as it is given, but a port without
+leading zeros, no empty port, and an IPv6 address as RFC 5952 writes it.
 
 Exit status: 0 on success, 1 if a text is no reference, 2 on a usage error,
 3 if the part is absent; nothing is printed then.

@@ -48,7 +48,7 @@ const VERSION_SUMMARY: &str = "uri --version         the version\n";
 
 /// The version of the library and the program, and the kit that its proofs were made with.
 const VERSION: &str = "\
-uri 0.3.0
+uri 0.4.0
 rattle-kit-13f logic dac8208d650f15bf
 ";
 

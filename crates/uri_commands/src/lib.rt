@@ -4,7 +4,7 @@
 //! They are a library, which the tests of the program and the jobs of the benchmark call.
 #![tactic(auto)]
 
-ghost use Rattle.std.specs.Prelude.{◌≡◌, ◌≤◌, [], IfOk, MatchResult, Some, map};
+ghost use Rattle.std.specs.Prelude.{◌≡◌, ◌≤◌, ◌∷◌, [], IfOk, MatchResult, Some, false, map};
 ghost use Rattle.uri_commands.specs.Output as spec;
 ghost use Rattle.uri_commands.specs.Tasks.{CommandEnds, ProgramEnds};
 
@@ -52,7 +52,7 @@ use std::io::{Read, Write};
 /// [`run_with_input`] does.
 pub fn run<O: Write, E: Write>(alloc: Global, words: &[&str], out: &mut O, err: &mut E) -> u8
     ensures bound { result ≤ 3 }
-    ensures ends { ProgramEnds (map (λ w. w.now) words.now) (Some []) (O.contents out.old) (O.contents out.new) result }
+    ensures ends { ProgramEnds (map (λ w. w.now) words.now) (Some []) (Some []) (O.contents out.old) (O.contents out.new) result }
 {
     run_with_input(alloc, words, &mut io::empty(), out, err)
 }
@@ -67,10 +67,9 @@ pub fn run<O: Write, E: Write>(alloc: Global, words: &[&str], out: &mut O, err: 
 /// - 3 if `get` finds no such part, `pairs` no query, `pair` no such pair, `--quiet equal` two references
 ///   that differ, or `within` or `host-within` an input that is not within. Nothing is written.
 ///
-/// With `--quiet` nothing is written about rejected texts nor, without `--lines`, about a lack of
-/// memory. Only `--lines` reads the input. Without it the output is put together in memory, and written
-/// to `out` once it is whole.
-#[tactic(auto, using(crate::proofs::RunLemmas::asked_for))]
+/// With `--quiet` nothing is written about rejected texts. Only `--lines` reads the input. Without it the
+/// output is put together in memory, and written to `out` once it is whole.
+#[tactic(auto, using(crate::proofs::RunLemmas::asked_for, crate::proofs::RunLemmas::asked_nothing))]
 pub fn run_with_input<I: Read, O: Write, E: Write>(
     alloc: Global,
     words: &[&str],
@@ -79,47 +78,52 @@ pub fn run_with_input<I: Read, O: Write, E: Write>(
     err: &mut E,
 ) -> u8
     ensures bound { result ≤ 3 }
-    ensures ends { ProgramEnds (map (λ w. w.now) words.now) (I.remaining input.old) (O.contents out.old) (O.contents out.new) result }
+    ensures ends { ProgramEnds (map (λ w. w.now) words.now) (I.remaining input.old) (I.remaining input.new) (O.contents out.old) (O.contents out.new) result }
 {
-    match split_options(alloc, words) {
-        Ok((options, words)) => run_command(alloc, options, words.as_slice(), input, out, err),
-        Err(error) => status_of(Options::NONE, words, Err(Failure::from(error)), err),
+    let (options, name, texts) = split_options(words);
+    match name {
+        Some(name) => run_command(alloc, options, name, texts, input, out, err),
+        None => status_of(options, "", texts, Err(Failure::Usage), err),
     }
 }
 
-/// Runs the command of these words with these options.
+/// Runs the command of this name, on these texts, with these options.
 #[tactic(auto, using(crate::proofs::RunLemmas::lines_ended, crate::proofs::RunLemmas::answer_ended))]
 fn run_command<I: Read, O: Write, E: Write>(
     alloc: Global,
     options: Options,
-    words: &[&str],
+    name: &str,
+    texts: &[&str],
     input: &mut I,
     out: &mut O,
     err: &mut E,
 ) -> u8
     ensures bound { result ≤ 3 }
-    ensures ends { CommandEnds options (map (λ w. w.now) words.now) (I.remaining input.old) (O.contents out.old) (O.contents out.new) result }
+    ensures ends { CommandEnds options (name.now ∷ map (λ w. w.now) texts.now) (I.remaining input.old) (I.remaining input.new) (O.contents out.old) (O.contents out.new) result }
 {
     if options.reads_lines {
-        let result = lines(alloc, options, words, input, out, err);
-        return status_of(options, words, result, err);
+        let result = lines(alloc, options, name, texts, input, out, err);
+        return status_of(options, name, texts, result, err);
     }
-    let result = print_answer(alloc, options, words, out);
-    status_of(options, words, result, err)
+    let result = print_answer(alloc, options, name, texts, out);
+    status_of(options, name, texts, result, err)
 }
 
-/// Runs the command of these words on the texts among them, prints its output once it is whole, and returns the status, 0.
-#[tactic(auto, using(crate::proofs::RunLemmas::nothing_done, crate::proofs::RunLemmas::written_whole, crate::proofs::RunLemmas::written_partly))]
+/// Runs the command of this name on these texts, prints its output once it is whole, and returns the status, 0.
+#[tactic(auto, using(crate::proofs::RunLemmas::nothing_done, crate::proofs::RunLemmas::written_whole, crate::proofs::RunLemmas::written_partly, crate::proofs::RunLemmas::nothing_found, crate::proofs::RunLemmas::found_at_once))]
 fn print_answer<O: Write>(
     alloc: Global,
     options: Options,
-    words: &[&str],
+    name: &str,
+    texts: &[&str],
     out: &mut O,
 ) -> Result<u8, Failure>
-    ensures { spec.DoesAtOnce (spec.Answers options (map (λ w. w.now) words.now)) (O.contents out.old) (O.contents out.new) result }
+    ensures does { spec.DoesAtOnce (spec.Answers options (name.now ∷ map (λ w. w.now) texts.now)) (O.contents out.old) (O.contents out.new) result }
+    ensures finds { spec.may_print options (name.now ∷ map (λ w. w.now) texts.now) ≡ false →
+        spec.FindsAtOnce (spec.Answers options (name.now ∷ map (λ w. w.now) texts.now)) (O.contents out.old) (O.contents out.new) result }
 {
     let mut printed = Vec::new(alloc);
-    if let Err(failure) = run_texts(alloc, options, words, &mut printed) {
+    if let Err(failure) = run_texts(alloc, options, name, texts, &mut printed) {
         return Err(failure.in_memory());
     }
     send(&mut printed, out)?;
@@ -129,7 +133,8 @@ fn print_answer<O: Write>(
 /// The status of a command's result. A failure is reported on `err`.
 fn status_of<E: Write>(
     options: Options,
-    words: &[&str],
+    name: &str,
+    texts: &[&str],
     answer: Result<u8, Failure>,
     err: &mut E,
 ) -> u8
@@ -141,7 +146,7 @@ fn status_of<E: Write>(
         Ok(status) => status,
         Err(failure) => {
             // The status reports a failure that can't be written either.
-            let _ = report(options, words, &failure, err);
+            let _ = report(options, name, texts, &failure, err);
             failure.status()
         }
     }
@@ -151,7 +156,8 @@ fn status_of<E: Write>(
 /// doesn't end the work on many lines.
 fn report<E: Write>(
     options: Options,
-    words: &[&str],
+    name: &str,
+    texts: &[&str],
     failure: &Failure,
     err: &mut E,
 ) -> io::Result<()> {
@@ -159,7 +165,7 @@ fn report<E: Write>(
         2 => writeln!(err, "{failure}"),
         1 if failure.is_closed_pipe() => Ok(()),
         1 if options.mode == Mode::Quiet && !options.reads_lines => Ok(()),
-        1 if options.explains => explain(words, failure, err),
+        1 if options.explains => explain(name, texts, failure, err),
         1 => writeln!(err, "{failure}"),
         _ => Ok(()),
     }

@@ -560,7 +560,7 @@ fn write_lines<I: Read, O: Write, E: Write + Drop>(
     Ok(do_buffered(&work, &mut input, out, err)?.status())
 }
 
-/// Runs the command of these words for each line of the input, and returns the status: 0, 1 if a
+/// Runs the command of this name for each line of the input, and returns the status: 0, 1 if a
 /// line was rejected, else 3 if a quiet comparison found different references.
 ///
 /// Each line is one text, or two with a tab between them. Its bytes need not be UTF-8, and a `\r`
@@ -571,14 +571,15 @@ fn write_lines<I: Read, O: Write, E: Write + Drop>(
 pub fn lines<I: Read, O: Write, E: Write>(
     alloc: Global,
     options: Options,
-    words: &[&str],
+    name: &str,
+    texts: &[&str],
     input: &mut I,
     out: &mut O,
     err: &mut E,
 ) -> Result<u8, Failure>
     ensures bound { IfOk result (λ status. status ≤ 3) }
-    ensures lines { IfSome (I.remaining input.old) (λ bytes. LinesEnd options (map (λ w. w.now) words.now) bytes (O.contents out.old) (O.contents out.new) result) }
+    ensures lines { LinesEnd options (name.now ∷ map (λ w. w.now) texts.now) (I.remaining input.old) (I.remaining input.new) (O.contents out.old) (O.contents out.new) result }
 {
-    let task = Task::read(alloc, options, words)?;
+    let task = Task::read(alloc, options, name, texts)?;
     write_lines(alloc, options, task, input, out, err)
 }

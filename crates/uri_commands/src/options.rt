@@ -1,12 +1,12 @@
 //! The options of a command, which precede its texts.
 
-ghost use Rattle.std.specs.Prelude.{◌≡◌, ◌<◌, ◌≤◌, ◌++◌, IfOk, IfSome, Some, length, map};
+ghost use Rattle.std.specs.Prelude.{◌≡◌, ◌<◌, ◌≤◌, IfSome, Some, length, map};
+ghost use Rattle.std.specs.Option.{option_map};
 ghost use Rattle.uri_commands.specs.Options as spec;
 ghost use Rattle.uri_commands.specs.Options.{both};
 ghost use Rattle.uri_commands.specs.Output.{is_for_lines};
 
 use crate::columns::Columns;
-use std::alloc::{AllocError, Global};
 
 /// What a command prints, and of which text, as the options say that exclude each other.
 #[derive(Clone, Copy, PartialEq, Eq)]
@@ -171,25 +171,6 @@ fn read_options<'w, 't>(before: Options, words: &'w [&'t str]) -> (Options, &'w 
     (options, &words[at..])
 }
 
-/// Reads the options before the command and after it. Returns them, the name between them if options may
-/// follow it, and the other words of the command.
-fn read_command<'w, 't>(words: &'w [&'t str]) -> (Options, &'w [&'t str], &'w [&'t str])
-    ensures { spec.asked (map (λ w. w.now) words.now) ≡ record { options = result.0; command = map (λ w. w.now) result.1.now ++ map (λ w. w.now) result.2.now } }
-{
-    let (options, rest) = read_options(Options::NONE, words);
-    let Some((name, more)) = rest.split_first() else {
-        return (options, rest, rest);
-    };
-    match *name {
-        "--" => (options, &rest[..0], more),
-        "help" => (options, &rest[..1], more),
-        _ => {
-            let (options, texts) = read_options(options, more);
-            (options, &rest[..1], without_end(texts))
-        }
-    }
-}
-
 /// The words without a first `--`, which ends the options.
 fn without_end<'w, 't>(words: &'w [&'t str]) -> &'w [&'t str]
     ensures { map (λ w. w.now) result.now ≡ spec.unmarked (map (λ w. w.now) words.now) }
@@ -200,19 +181,36 @@ fn without_end<'w, 't>(words: &'w [&'t str]) -> &'w [&'t str]
     }
 }
 
-/// Splits the words into the options, and the command with its texts. Allocates a list of these.
+/// The first of the words, which is a command's name, and the other words.
+fn split_name<'w, 't>(words: &'w [&'t str]) -> (Option<&'t str>, &'w [&'t str])
+    ensures { spec.command_of (option_map (λ w. w.now) result.0) (map (λ w. w.now) result.1.now) ≡ map (λ w. w.now) words.now }
+{
+    match words {
+        [name, texts @ ..] => (Some(*name), texts),
+        [] => (None, words),
+    }
+}
+
+/// Splits the words into the options, the command's name, if there is one, and its texts.
 ///
 /// Options stand before the command or after it, in any order, but before its texts. `--` ends them. What
 /// follows `help` is a name, also an option's.
-pub fn split_options<'t>(
-    alloc: Global,
-    words: &[&'t str],
-) -> Result<(Options, Vec<&'t str>), AllocError>
-    ensures { IfOk result (λ r. spec.asked (map (λ w. w.now) words.now) ≡ record { options = r.0; command = map (λ w. w.now) r.1.items }) }
+pub fn split_options<'w, 't>(words: &'w [&'t str]) -> (Options, Option<&'t str>, &'w [&'t str])
+    ensures { spec.asked (map (λ w. w.now) words.now) ≡ record { options = result.0; command = spec.command_of (option_map (λ w. w.now) result.1) (map (λ w. w.now) result.2.now) } }
 {
-    let (options, name, texts) = read_command(words);
-    let mut command = Vec::with_capacity(alloc, words.len())?;
-    command.extend_from_slice(name)?;
-    command.extend_from_slice(texts)?;
-    Ok((options, command))
+    let (options, rest) = read_options(Options::NONE, words);
+    let Some((name, more)) = rest.split_first() else {
+        return (options, None, rest);
+    };
+    match *name {
+        "--" => {
+            let (name, texts) = split_name(more);
+            (options, name, texts)
+        }
+        "help" => (options, Some(*name), more),
+        _ => {
+            let (options, texts) = read_options(options, more);
+            (options, Some(*name), without_end(texts))
+        }
+    }
 }

@@ -1,6 +1,6 @@
 //! Output that is kept in a buffer before it is written.
 
-ghost use Rattle.std.specs.Prelude.{◌≡◌, ◌≤◌, [], IfErr, IfOk, OnOk, Some, length};
+ghost use Rattle.std.specs.Prelude.{◌≡◌, ◌<◌, ◌≤◌, [], IfErr, IfOk, IsOk, OnErr, OnOk, Some, length};
 ghost use Rattle.std.specs.Io.KnownBytes.{WriteAppends};
 ghost use Rattle.uri_commands.specs.Output.{EndsWork};
 ghost use Rattle.uri_commands.specs.Outputs.{Sends};
@@ -62,22 +62,25 @@ fn write_some<O: Write>(bytes: &[u8], out: &mut O) -> io::Result<usize>
     }
 }
 
-/// Writes the pending bytes, and removes those that are taken. If a write fails, the others stay.
-#[tactic(auto, using(crate::proofs::OutputsLemmas::sends_none, crate::proofs::OutputsLemmas::sends_front, crate::proofs::OutputsLemmas::sends_whole, crate::proofs::OutputsLemmas::sends_kept))]
+/// Writes the pending bytes, and removes those that are taken. If a write fails, the others stay: it fails
+/// only before the last byte is taken.
+#[tactic(auto, using(crate::proofs::OutputsLemmas::sends_none, crate::proofs::OutputsLemmas::sends_front, crate::proofs::OutputsLemmas::sends_whole, crate::proofs::OutputsLemmas::sends_kept, crate::proofs::OutputsLemmas::left_some))]
 pub fn send<O: Write>(pending: &mut Vec<u8>, out: &mut O) -> io::Result<()>
     ensures sends { Sends (O.contents out.old) (O.contents out.new) pending.old.items pending.new.items [] }
     ensures all { OnOk result (pending.new.items ≡ []) }
+    ensures some { OnErr result (0 < length pending.new.items) }
+    ensures none { pending.old.items ≡ [] → IsOk result × (out.new ≡ out.old) }
 {
+    if pending.is_empty() {
+        return Ok(());
+    }
     'writes: for _ in 0..u64::MAX {
-        if pending.is_empty() {
-            return Ok(());
-        }
         let count = write_some(pending, out)?;
         if count == pending.len() {
             pending.clear();
-        } else {
-            pending.drain(..count);
+            return Ok(());
         }
+        pending.drain(..count);
     }
     Err(io::Error::from(io::ErrorKind::Interrupted))
 }

@@ -6,10 +6,13 @@ pub mod WithinLemmas
 pub mod WithinLawLemmas
 pub mod WithinTargetLemmas
 pub mod WithinTestLemmas
+pub mod WithinOriginLemmas
 pub mod ChangeLawLemmas
 pub mod UnchangedLemmas
 pub mod ChangedPartLemmas
 pub mod CommutingLemmas
+pub mod ReplacedLemmas
+pub mod EditLawLemmas
 pub mod BuilderLemmas
 pub mod ResolveLemmas
 pub mod FileLemmas

@@ -8,7 +8,7 @@ use Rattle.uriparse.specs.declared.relative_reference.error.RelativeReferenceErr
 use Rattle.uriparse.specs.declared.relative_reference.error.RelativeReferenceError.TheVariants as errors
 use Rattle.uriparse.specs.Kinds.{with_mapped_error}
 
--- the error of a reference as one of a relative reference, where it is one: a fault of a scheme is none
+-- The error of a reference, as an error of relative references. A fault of a scheme has none: what has a scheme is no relative reference.
 abbrev pub relative_error : URIReferenceError → Option RelativeReferenceError
 relative_error references.AbsolutePathStartsWithTwoSlashes = Some errors.AbsolutePathStartsWithTwoSlashes
 relative_error references.SchemelessPathStartsWithColonSegment = Some errors.SchemelessPathStartsWithColonSegment

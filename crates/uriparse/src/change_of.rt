@@ -137,9 +137,9 @@ impl<'t, K: ReferenceKind> ViewOf<'t, K> {
 }
 
 impl<K: ReferenceKind> TextOf<K> {
-    /// Changes some components, as [`ViewOf::change_into`] does, with the same errors; the others
-    /// keep their bytes. Allocates once, exactly the new string's length. On an error the text is
-    /// unchanged.
+    /// Changes some components, as [`ViewOf::change_into`] does, with the same errors. The other
+    /// components stay as they are there. Allocates once, exactly the new string's length. On an error
+    /// the text is unchanged.
     ///
     /// ```
     /// let mut text = URIText::try_from_str(alloc, "HTTP://u@h/%7Ea#f")?;

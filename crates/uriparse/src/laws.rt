@@ -1,6 +1,6 @@
 //! Laws of the definitions that contracts cite. Each function does nothing: its contract is the
 //! law. Call it where a proof needs the law.
-ghost use Rattle.std.specs.Prelude.{◌≡◌, ◌↔◌, ◌⊎◌, ◌∷◌, ◌++◌, ◌<◌, [], ℕ, List, Err, Ok, Some, None, codes, false, is_some, length, true};
+ghost use Rattle.std.specs.Prelude.{◌≡◌, ◌↔◌, ◌⊎◌, ◌∷◌, ◌++◌, ◌<◌, [], ℕ, List, Option, Err, Ok, Some, None, codes, false, is_some, length, true};
 ghost use Rattle.std.specs.List.{list_any};
 ghost use Rattle.uriparse_text.specs.Ambiguous.{is_ambiguous};
 ghost use Rattle.uriparse_text.specs.Bytes.{slash};
@@ -11,18 +11,21 @@ ghost use Rattle.uriparse_reference.specs.Change.{Strings, after_authority, auth
 ghost use Rattle.uriparse_reference.specs.Cuts.{authority_text, fragment_text, path_text, query_text, scheme_text};
 ghost use Rattle.uriparse_reference.specs.View.{Viewed};
 ghost use Rattle.uriparse_reference.specs.Wanted.{Wanted, unchanged};
-ghost use Rattle.uriparse_reference.specs.Edits.{of_parts};
+ghost use Rattle.uriparse_reference.specs.Edits.{edited, of_parts};
+ghost use Rattle.uriparse_reference.specs.declared.uri_reference.edit.Edit.TheVariants as edits;
+ghost use Rattle.uriparse_reference.specs.Beside.{with_host, with_password, with_port, with_username};
+ghost use Rattle.uriparse_reference.specs.TextEdits.{with_fragment, with_query};
 ghost use Rattle.uriparse_reference.specs.Ports.{without_default_port};
 ghost use Rattle.uriparse_reference.specs.Normal.{normal};
 ghost use Rattle.uriparse_reference.specs.Reference.{Parts, Same, Spells, Valid, host_of, print};
-ghost use Rattle.uriparse.specs.Apart.{AreApart, changed_text, changed_twice};
+ghost use Rattle.uriparse.specs.Apart.{AreApart, Replaces, WantsOwn, changed_text, changed_twice};
 ghost use Rattle.uriparse.specs.File.{file_uri, path_named, path_of_uri, uri_of_path};
 ghost use Rattle.uriparse.specs.declared.file.error.FileError.TheVariants as errors;
 ghost use Rattle.uriparse.specs.Kinds.{IsOfKind, with_mapped_error};
 ghost use Rattle.uriparse.specs.Origin.{are_alike, fed, have_same_origin, origin, printed_origin, share_origin, text};
 ghost use Rattle.uriparse.specs.declared.uri.origin.Origin.{Origin};
 ghost use Rattle.uriparse_authority.specs.Authority as authority;
-ghost use Rattle.uriparse_authority.specs.Authority.{password_after, with_empty};
+ghost use Rattle.uriparse_authority.specs.Authority.{AuthorityParts, password_after, with_empty};
 ghost use Rattle.uriparse_authority.specs.Host as host;
 ghost use Rattle.uriparse_authority.specs.Normal.{canonical_host};
 ghost use Rattle.uriparse_authority.specs.declared.authority.host.Host.{Host};
@@ -85,7 +88,8 @@ pub fn one_origin()
 /// that it is below is below. Two URIs of which each is below the other have the same directory. The
 /// normal form of a URI is below what the URI is below; the URI is below what its normal form is
 /// below, if no `..` removes such a segment. The same URIs are below a URI and its normal form. Equal
-/// URIs are below the same URIs, and the same URIs are below them. The test computes it.
+/// URIs are below the same URIs, and the same URIs are below them. The test computes it. A URI below one
+/// that has an origin has the same origin.
 pub fn within_uris()
     ensures itself { (p : Parts) (front : List (List ℕ)) (last : List ℕ) → between_slashes (pnormal p.path false) ≡ front ++ last ∷ [] → is_ambiguous last ≡ false → removes_unclear p.path ≡ false → IsWithin p p }
     ensures again { (p q r : Parts) → IsWithin p q → IsWithin q r → IsWithin p r }
@@ -97,6 +101,7 @@ pub fn within_uris()
     ensures own { (b r t : Parts) (front : List (List ℕ)) (last : List ℕ) → Valid b → r.scheme ≡ None → r.authority ≡ None → is_empty (path.text r.path) ≡ true → between_slashes (pnormal b.path false) ≡ front ++ last ∷ [] → is_ambiguous last ≡ false → removes_unclear b.path ≡ false → target b r ≡ Some t → IsWithin t b }
     ensures equals { (p q b c : Parts) → Valid p → Valid q → Valid b → Valid c → IsOfKind true p → IsOfKind true q → IsOfKind true b → IsOfKind true c → Same p q → Same b c → IsWithin p b → IsWithin q c }
     ensures tested { (p b : Parts) → (is_within p b ≡ true) ↔ IsWithin p b }
+    ensures origin { (p b : Parts) (o : Origin) → Valid p → Valid b → IsWithin p b → origin b ≡ Some o → have_same_origin p b ≡ true }
 {}
 
 /// URIs below another one, and URIs that only look so.
@@ -142,8 +147,9 @@ pub fn limits_of_below()
     ensures no_path_unclear { target_within (codes "http://h/a//..") (codes "#f") ≡ Some false }
 {}
 
-/// A change that keeps every component changes nothing, and making a change again changes nothing
-/// more. Two changes of different components make the same string in either order, if both orders are
+/// A change that keeps every component changes nothing, and so does one that sets a component to the
+/// string that it has, or removes an absent one. Making a change again changes nothing more. After a
+/// change that another one replaces, the other makes what it makes alone. Two changes of different components make the same string in either order, if both orders are
 /// accepted. The user name and the password count as one component there, and so do the host and the
 /// path.
 ///
@@ -168,6 +174,22 @@ pub fn one_change()
     ensures again { (c : Wanted) (t : List ℕ) (v : Viewed) → changing c t ≡ Ok v → changing c v.text ≡ Ok v }
     ensures commuting { (c d : Wanted) (t : List ℕ) (u v w x : Viewed) → AreApart c d → changing c t ≡ Ok u → changing d u.text ≡ Ok v → changing d t ≡ Ok w → changing c w.text ≡ Ok x → v ≡ x }
     ensures twice { (c d : Wanted) (t : List ℕ) (v w : Viewed) → changing c t ≡ Ok v → changing d v.text ≡ Ok w → query_text w.text ≡ changed d.query (changed c.query (query_text t)) }
+    ensures own { (c : Wanted) (t : List ℕ) (p : Parts) → Spells t p → WantsOwn c (strings t) → changing c t ≡ Ok (record { text = t; parts = p }) }
+    ensures last { (c d : Wanted) (t : List ℕ) (v : Viewed) → Replaces d c → changing c t ≡ Ok v → changing d v.text ≡ changing d t }
+{}
+
+/// A change of one component makes what the edit of that component makes of the components, or the
+/// setter of a value: for a scheme, a query and a fragment, and for a host, a user name, a password and
+/// a port. With another query or another fragment, the string is the one that `set_query` and
+/// `set_fragment` of owned strings make.
+pub fn changes_and_edits()
+    ensures scheme { (n : Option (List ℕ)) (t : List ℕ) (p : Parts) (v : Viewed) → Spells t p → changing (record unchanged { scheme = Some n }) t ≡ Ok v → edited p (edits.Scheme v.parts.scheme) ≡ Ok v.parts }
+    ensures query { (q : Option (List ℕ)) (t : List ℕ) (p : Parts) (v : Viewed) → Spells t p → changing (record unchanged { query = Some q }) t ≡ Ok v → (edited p (edits.Query q) ≡ Ok v.parts) × (v.text ≡ with_query t q) }
+    ensures fragment { (f : Option (List ℕ)) (t : List ℕ) (p : Parts) (v : Viewed) → Spells t p → changing (record unchanged { fragment = Some f }) t ≡ Ok v → (edited p (edits.Fragment f) ≡ Ok v.parts) × (v.text ≡ with_fragment t f) }
+    ensures host { (g : List ℕ) (t : List ℕ) (p : Parts) (v : Viewed) → Spells t p → changing (record unchanged { host = Some (Some g) }) t ≡ Ok v → (h : Host) × (host.reading g ≡ Ok h) × (v.parts ≡ with_host p h) }
+    ensures username { (u : Option (List ℕ)) (t : List ℕ) (p : Parts) (v : Viewed) → Spells t p → changing (record unchanged { username = Some u }) t ≡ Ok v → with_username p u ≡ Ok v.parts }
+    ensures password { (w : Option (List ℕ)) (t : List ℕ) (p : Parts) (v : Viewed) → Spells t p → changing (record unchanged { password = Some w }) t ≡ Ok v → with_password p w ≡ Ok v.parts }
+    ensures port { (n : Option (List ℕ)) (t : List ℕ) (p : Parts) (v : Viewed) → Spells t p → changing (record unchanged { port = Some n }) t ≡ Ok v → with_port p (option_and_then (λ (a : AuthorityParts). a.port) v.parts.authority) ≡ Ok v.parts }
 {}
 
 /// Strings before and after changes. The last two pairs show why a removed host and the path, and a removed
@@ -184,6 +206,14 @@ pub fn examples_of_changes()
     ensures path_then_host { changed_twice (record unchanged { path = Some (Some []) }) (record unchanged { host = Some None }) (codes "//h/x") ≡ Some (codes "/") }
     ensures username_then_password { changed_twice (record unchanged { username = Some None }) (record unchanged { password = Some (Some (codes "q")) }) (codes "//u:p@h") ≡ Some (codes "//:q@h") }
     ensures password_then_username { changed_twice (record unchanged { password = Some (Some (codes "q")) }) (record unchanged { username = Some None }) (codes "//u:p@h") ≡ Some (codes "//h") }
+    ensures own_host { changed_text (record unchanged { host = Some (Some (codes "h")) }) (codes "//u:p@h:8") ≡ Some (codes "//u:p@h:8") }
+    ensures own_path { changed_text (record unchanged { path = Some (Some (codes "/a")); fragment = Some None }) (codes "//h/a?q") ≡ Some (codes "//h/a?q") }
+    ensures not_a_reference { changed_text unchanged (codes "a b") ≡ None }
+    ensures last_host { changed_twice (record unchanged { host = Some (Some (codes "h2")) }) (record unchanged { host = Some (Some (codes "h3")); path = Some (Some (codes "/")) }) (codes "//u@h") ≡ Some (codes "//u@h3/") }
+    ensures removed_host { changed_twice (record unchanged { host = Some None }) (record unchanged { host = Some (Some (codes "h3")); path = Some (Some (codes "/")) }) (codes "//u@h") ≡ Some (codes "//h3/") }
+    ensures last_username { changed_twice (record unchanged { username = Some None }) (record unchanged { username = Some (Some (codes "v")) }) (codes "//u:p@h") ≡ Some (codes "//v@h") }
+    ensures username_alone { changed_text (record unchanged { username = Some (Some (codes "v")) }) (codes "//u:p@h") ≡ Some (codes "//v:p@h") }
+    ensures kept_host_path { changed_twice (record unchanged { host = Some (Some (codes "h")) }) (record unchanged { host = Some None }) (codes "x") ≡ Some (codes "/x") }
 {}
 
 /// Origins: of one spelling each, and of URIs that have none.

@@ -18,6 +18,7 @@ use std::alloc::{AllocError, Global};
 use std::fmt;
 use std::hash::{Hash, Hasher};
 use std::marker::{Model, PhantomData};
+use std::ops::Deref;
 use uriparse_reference::uri_reference::{BufferError, ReferenceView};
 
 mod pairs;
@@ -27,8 +28,9 @@ mod pairs;
 /// [`RelativeReferenceView`](crate::relative_reference::RelativeReferenceView). Contracts see it as
 /// the text that was read and its components.
 ///
-/// It has the components of the [`ReferenceView`] that it lends
-/// ([`as_reference_view`](ViewOf::as_reference_view)). Two of them are equal if their views are.
+/// It is read as the [`ReferenceView`] that it lends ([`as_reference_view`](ViewOf::as_reference_view)):
+/// `view.host()`, `view.path()` and its other calls return the components. Two of them are equal if
+/// their views are.
 #[derive(Drop)]
 pub struct ViewOf<'t, K: ReferenceKind> {
     pub(crate) view: ReferenceView<'t>,
@@ -156,6 +158,17 @@ impl<'t, K: ReferenceKind> ViewOf<'t, K> {
             Ok(reference) => Ok(ReferenceOf::of_checked(reference)),
             Err(error) => Err(error),
         }
+    }
+}
+
+/// A view of one kind is read as a view of any kind is: `view.host()` is the host.
+impl<'t, K: ReferenceKind> Deref for ViewOf<'t, K> {
+    type Target = ReferenceView<'t>;
+
+    ghost deref_gives = { λ v r. r ≡ v };
+
+    fn deref(&self) -> &ReferenceView<'t> {
+        &self.view
     }
 }
 

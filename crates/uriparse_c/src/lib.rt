@@ -7,9 +7,15 @@
 
 ghost use Rattle.std.specs.Prelude.{◌≡◌, ◌⊎◌, ◌↔◌, ◌+◌, ◌<◌, ◌∷◌, ℕ, [], IsTrue, List, Err, Ok, Some, None, bytes_eq, is_some, length, true, false};
 ghost use Rattle.std.specs.List.{find};
+ghost use Rattle.std.specs.Option.{option_and_then};
 ghost use Rattle.uriparse_text.specs.declared.internal.class.Class.{Class};
 ghost use Rattle.uriparse_text.specs.declared.query.QueryError.{QueryError};
-ghost use Rattle.uriparse_text.specs.Coding.{decoded, encoded};
+ghost use Rattle.uriparse_text.specs.Ambiguous.{is_ambiguous};
+ghost use Rattle.uriparse_text.specs.Coding.{decoded, encoded, form_decoded};
+ghost use Rattle.uriparse_text.specs.Link.{link};
+ghost use Rattle.uriparse_text.specs.Segment as segments;
+ghost use Rattle.uriparse_text.specs.Segment.{IsSegment};
+ghost use Rattle.uriparse_text.specs.declared.segment.error.PathError.{PathError};
 ghost use Rattle.uriparse_text.specs.Pairs.{Pair, encoded_in_pair, encoded_pair, is_named, joined_pairs, pairs, pairs_left, with_appended, with_pair, without_names};
 ghost use Rattle.uriparse_text.specs.Query.{IsQuery, reading};
 ghost use Rattle.uriparse_text.specs.Starts.{most};
@@ -18,6 +24,7 @@ ghost use Rattle.uriparse_reference.specs.Escaped.{escaped};
 ghost use Rattle.uriparse_reference.specs.Key.{key};
 ghost use Rattle.uriparse_reference.specs.declared.uri_reference.error.URIReferenceError.{URIReferenceError};
 ghost use Rattle.uriparse_reference.specs.Normal.{normal};
+ghost use Rattle.uriparse_reference.specs.Ports.{port_or_default};
 ghost use Rattle.uriparse_reference.specs.Offset.{first_fault};
 ghost use Rattle.uriparse_reference.specs.Reading.{fault};
 ghost use Rattle.uriparse_reference.specs.Order.{reference_cmp};
@@ -26,28 +33,34 @@ ghost use Rattle.uriparse_reference.specs.Target.{target};
 ghost use Rattle.uriparse_reference.specs.View.{Viewed};
 ghost use Rattle.uriparse_reference.specs.declared.uri_reference.change.ChangeError.TheVariants as changes;
 ghost use Rattle.uriparse.specs.declared.uri.origin.Origin.{Origin};
-ghost use Rattle.uriparse.specs.Origin.{origin, text as origin_text};
+ghost use Rattle.uriparse.specs.Origin.{have_same_origin, origin, text as origin_text};
 ghost use Rattle.uriparse.specs.Within.{IsWithin};
 ghost use Rattle.uriparse_authority.specs.Host as hosts;
 ghost use Rattle.uriparse_authority.specs.declared.authority.error.HostError.{HostError};
 ghost use Rattle.uriparse_authority.specs.declared.authority.host.Host.{Host};
 ghost use Rattle.uriparse_scheme.specs.Scheme as schemes;
+ghost use Rattle.uriparse_ffi.specs.Addresses.{address_bytes};
 ghost use Rattle.uriparse_ffi.specs.Changes.{are_wishes, wanted_in};
-ghost use Rattle.uriparse_ffi.specs.Checks.{IsHostWithin, Tells, default_port_of, host_flags, order_number};
+ghost use Rattle.uriparse_ffi.specs.Checks.{IsHostWithin, Tells, default_port_of, host_flags, order_number, port_or_minus_one};
 ghost use Rattle.uriparse_ffi.specs.Code as spec;
 ghost use Rattle.uriparse_ffi.specs.Components.{class_of, pair_number};
 ghost use Rattle.uriparse_ffi.specs.Hash.{hash_of};
-ghost use Rattle.uriparse_ffi.specs.Pairs.{IsFirstNamedAt, IsPairAt, left_from, value_given};
+ghost use Rattle.uriparse_ffi.specs.Pairs.{IsFirstNamedAt, IsNextNamedAt, IsPairAt, left_from, value_given};
 ghost use Rattle.uriparse_ffi.specs.Places.{ArePlacesOf};
 ghost use Rattle.uriparse_ffi.specs.Put.{IsPut, IsRefused, IsRelativePut};
 
+use uriparse_ffi::addresses::write_address;
 use uriparse_ffi::changes::{UriChanges, write_changed};
-use uriparse_ffi::checks::{default_port, flags, write_host_within, write_order, write_within};
+use uriparse_ffi::checks::{
+    default_port, flags, write_host_within, write_is_ambiguous, write_is_normalized, write_order,
+    write_port, write_within,
+};
 use uriparse_ffi::code::{ACCEPTED, code_of, truth_of};
-use uriparse_ffi::coding::{write_decoded, write_encoded, write_escaped};
-use uriparse_ffi::origins::write_origin;
+use uriparse_ffi::coding::{write_decoded, write_encoded, write_escaped, write_trimmed};
+use uriparse_ffi::forms::write_form_decoded;
+use uriparse_ffi::origins::{write_origin, write_same_origin};
 use uriparse_ffi::pair_edits::{write_appended, write_with_pair, write_without};
-use uriparse_ffi::pairs::{UriPair, named_pair, pair_at};
+use uriparse_ffi::pairs::{UriPair, named_pair, next_named_pair, pair_at};
 use uriparse_ffi::places::{UriParts, places};
 use uriparse_ffi::texts::{equal_texts, hashed, write_normal, write_relative, write_target};
 use uriparse_reference::internal::find_pieces;
@@ -132,6 +145,31 @@ pub extern "C" fn uriparse_compare(left: &[u8], right: &[u8], order: &mut i32) -
     write_order(left, right, order)
 }
 
+/// Writes whether two references have one origin. Does not allocate.
+#[unsafe(no_mangle)]
+pub extern "C" fn uriparse_same_origin(left: &[u8], right: &[u8], same: &mut u8) -> u32
+    // For two references, 1 is written if both have an origin and it is one, else 0.
+    ensures compared { (p q : Parts) → Spells left.now p → Spells right.now q → (result ≡ spec.accepted) × (same.new ≡ spec.truth (have_same_origin p q)) }
+
+    // A faulty text is rejected, the left one first, and nothing is written.
+    ensures left { (e : URIReferenceError) → fault left.now ≡ Some e → (result ≡ spec.code_of e) × (same.new ≡ same.old) }
+    ensures right { (p : Parts) (e : URIReferenceError) → Spells left.now p → fault right.now ≡ Some e → (result ≡ spec.code_of e) × (same.new ≡ same.old) }
+{
+    write_same_origin(left, right, same)
+}
+
+/// Writes whether a text is the normal form of the reference that it spells. Does not allocate.
+#[unsafe(no_mangle)]
+pub extern "C" fn uriparse_is_normalized(text: &[u8], normalized: &mut u8) -> u32
+    // For a reference, 1 is written if its normal form is printed as this text, else 0.
+    ensures checked { (p : Parts) → Spells text.now p → (result ≡ spec.accepted) × Tells (print (normal p) ≡ text.now) normalized.new }
+
+    // A faulty text is rejected, and nothing is written.
+    ensures refused { (e : URIReferenceError) → fault text.now ≡ Some e → (result ≡ spec.code_of e) × (normalized.new ≡ normalized.old) }
+{
+    write_is_normalized(text, normalized)
+}
+
 /// Writes whether a URI is within another one. Does not allocate.
 #[unsafe(no_mangle)]
 pub extern "C" fn uriparse_is_within(text: &[u8], base: &[u8], within: &mut u8) -> u32
@@ -178,6 +216,45 @@ pub extern "C" fn uriparse_host_flags(text: &[u8], host: &mut u32) -> u32
         }
         Err(code) => code,
     }
+}
+
+/// Writes whether readers disagree on what a segment of a path names. Does not allocate.
+#[unsafe(no_mangle)]
+pub extern "C" fn uriparse_is_ambiguous(segment: &[u8], ambiguous: &mut u8) -> u32
+    // For a segment, 1 is written if it is ambiguous, else 0.
+    ensures checked { IsSegment segment.now → (result ≡ spec.accepted) × (ambiguous.new ≡ spec.truth (is_ambiguous segment.now)) }
+
+    // What is no segment is rejected with its fault, and nothing is written.
+    ensures refused { (e : PathError) → segments.reading segment.now ≡ Err e → (result ≡ spec.path_code e) × (ambiguous.new ≡ ambiguous.old) }
+{
+    write_is_ambiguous(segment, ambiguous)
+}
+
+/// Writes the port that a reference uses. Does not allocate.
+#[unsafe(no_mangle)]
+pub extern "C" fn uriparse_port_or_default(text: &[u8], port: &mut i32) -> u32
+    // For a reference, its port is written, or the default port of its scheme, or -1 if it has neither.
+    ensures found { (p : Parts) → Spells text.now p → (result ≡ spec.accepted) × (port.new ≡ port_or_minus_one (port_or_default p)) }
+
+    // A faulty text is rejected, and nothing is written.
+    ensures refused { (e : URIReferenceError) → fault text.now ≡ Some e → (result ≡ spec.code_of e) × (port.new ≡ port.old) }
+{
+    write_port(text, port)
+}
+
+/// Writes the bytes of the IP address that is the host of a reference to the buffer. Does not allocate.
+#[unsafe(no_mangle)]
+pub extern "C" fn uriparse_host_address(text: &[u8], out: &mut [u8], needed: &mut usize) -> u32
+    // The buffer holds the four or sixteen bytes of the address, or it is too small.
+    ensures written { (p : Parts) (b : List ℕ) → Spells text.now p → option_and_then address_bytes (host_of p) ≡ Some b → IsPut b out.old out.new needed.new result }
+
+    // A reference whose host is no address is rejected, and so is one without a host. The buffer is kept.
+    ensures without { (p : Parts) → Spells text.now p → option_and_then address_bytes (host_of p) ≡ None → IsRefused spec.no_address out.old out.new needed.new result }
+
+    // A faulty text is rejected, and the buffer is kept.
+    ensures refused { (e : URIReferenceError) → fault text.now ≡ Some e → IsRefused (spec.code_of e) out.old out.new needed.new result }
+{
+    write_address(text, out, needed)
 }
 
 /// The default port of the scheme of this name, or 0. Does not allocate.
@@ -250,8 +327,8 @@ pub extern "C" fn uriparse_relativize(
     out: &mut [u8],
     needed: &mut usize,
 ) -> u32
-    // The buffer holds the text of a reference that has the target of the URI and leaves out what it
-    // can, or it is too small.
+    // The buffer holds the text of a reference that has the target of the URI, the one that `relative`
+    // gives, or it is too small.
     ensures written { (b t : Parts) → Spells base.now b → is_some b.scheme ≡ true → Spells uri.now t → is_some t.scheme ≡ true → IsRelativePut b t out.old out.new needed.new result }
 
     // A base or a URI without a scheme is rejected, and so is a faulty text, the base first.
@@ -287,13 +364,12 @@ pub extern "C" fn uriparse_change(
     out: &mut [u8],
     needed: &mut usize,
 ) -> u32
-    // The buffer holds the string in which each component is changed or has its old bytes, or it is
-    // too small.
+    // The buffer holds the changed string, or it is too small.
     ensures written { (p : Parts) (v : Viewed) → Spells text.now p → are_wishes values.now wanted.now ≡ true → changing (wanted_in values.now wanted.now) text.now ≡ Ok v → IsPut v.text out.old out.new needed.new result }
 
     // A user name, a password or a port that is set without a host is rejected, and so is a result
     // that is no reference. The buffer is kept.
-    ensures host { (p : Parts) → Spells text.now p → are_wishes values.now wanted.now ≡ true → changing (wanted_in values.now wanted.now) text.now ≡ Err changes.MissingHost → IsRefused spec.no_host out.old out.new needed.new result }
+    ensures host { (p : Parts) → Spells text.now p → are_wishes values.now wanted.now ≡ true → changing (wanted_in values.now wanted.now) text.now ≡ Err changes.MissingHost → IsRefused spec.missing_host out.old out.new needed.new result }
     ensures rejected { (p : Parts) (e : URIReferenceError) → Spells text.now p → are_wishes values.now wanted.now ≡ true → changing (wanted_in values.now wanted.now) text.now ≡ Err (changes.Reference e) → IsRefused (spec.code_of e) out.old out.new needed.new result }
 
     // A change with another number, or outside the values, is rejected, and so is a faulty text.
@@ -336,6 +412,30 @@ pub extern "C" fn uriparse_find_pair(query: &[u8], name: &[u8], pair: &mut UriPa
     ensures none { find (is_named name.now) (pairs query.now) ≡ None → (result ≡ false) × (pair.new ≡ pair.old) }
 {
     match named_pair(query, name) {
+        Some(found) => {
+            *pair = found;
+            true
+        }
+        None => false,
+    }
+}
+
+/// Finds the first pair of this name that begins at a place of a query or later, and says where it is and
+/// where the next one begins. Does not allocate.
+#[unsafe(no_mangle)]
+pub extern "C" fn uriparse_find_next_pair(
+    query: &[u8],
+    at: usize,
+    name: &[u8],
+    pair: &mut UriPair,
+) -> bool
+    // The first of the pairs that are left from there whose name stands for these bytes is there.
+    ensures found { (p : Pair) → find (is_named name.now) (pairs_left (left_from query.now at)) ≡ Some p → IsTrue result × IsNextNamedAt name.now query.now at p pair.new }
+
+    // If there is none, nothing is written.
+    ensures none { find (is_named name.now) (pairs_left (left_from query.now at)) ≡ None → (result ≡ false) × (pair.new ≡ pair.old) }
+{
+    match next_named_pair(query, at, name) {
         Some(found) => {
             *pair = found;
             true
@@ -418,6 +518,19 @@ pub extern "C" fn uriparse_decode(text: &[u8], out: &mut [u8], needed: &mut usiz
     write_decoded(text, out, needed)
 }
 
+/// Writes the bytes that a name or a value of an HTML form represents to the buffer. Does not allocate.
+#[unsafe(no_mangle)]
+pub extern "C" fn uriparse_form_decode(text: &[u8], out: &mut [u8], needed: &mut usize) -> u32
+    // The buffer holds the bytes that the text's tokens stand for, and a space for each `+`, or it is too
+    // small.
+    ensures written { IsQuery text.now → IsPut (form_decoded text.now) out.old out.new needed.new result }
+
+    // What is no text of a query is rejected with its fault, and the buffer is kept.
+    ensures refused { (e : QueryError) → reading text.now ≡ Err e → IsRefused (spec.query_code e) out.old out.new needed.new result }
+{
+    write_form_decoded(text, out, needed)
+}
+
 /// Writes the text of a component that represents the bytes to the buffer. Does not allocate.
 #[unsafe(no_mangle)]
 pub extern "C" fn uriparse_encode(
@@ -447,4 +560,14 @@ pub extern "C" fn uriparse_escape(text: &[u8], out: &mut [u8], needed: &mut usiz
     ensures { IsPut (escaped text.now) out.old out.new needed.new result }
 {
     write_escaped(text, out, needed)
+}
+
+/// Writes the reference in a text that was cut out of a page to the buffer: the text without the white
+/// space around it, angle brackets and `URL:`. Does not allocate.
+#[unsafe(no_mangle)]
+pub extern "C" fn uriparse_trim_link(text: &[u8], out: &mut [u8], needed: &mut usize) -> u32
+    // The buffer holds what is left of the text, or it is too small.
+    ensures { IsPut (link text.now) out.old out.new needed.new result }
+{
+    write_trimmed(text, out, needed)
 }

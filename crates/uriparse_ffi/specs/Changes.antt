@@ -4,21 +4,21 @@ use Rattle.uriparse_reference.specs.Wanted.{Wanted, Wish}
 use Rattle.uriparse_reference.specs.View.{Viewed}
 use Rattle.uriparse_reference.specs.declared.uri_reference.change.ChangeError.{ChangeError}
 use Rattle.uriparse_reference.specs.declared.uri_reference.change.ChangeError.TheVariants as errors
-use Rattle.uriparse_ffi.specs.declared.span.UriSpan.{UriSpan}
+use Rattle.uriparse_ffi.specs.declared.changes.UriValue.{UriValue}
 use Rattle.uriparse_ffi.specs.declared.changes.UriChanges.{UriChanges}
-use Rattle.uriparse_ffi.specs.Code.{accepted, code_of, no_host, no_room, out_of_memory}
+use Rattle.uriparse_ffi.specs.Code.{accepted, code_of, missing_host, no_room, out_of_memory}
 use Rattle.uriparse_ffi.specs.Put.{IsPut, IsRefused}
 
 -- 0 keeps a component, 1 sets it to these bytes of the values, and 2 removes it.
-abbrev pub wish_at : List ℕ → UriSpan → Wish
+abbrev pub wish_at : List ℕ → UriValue → Wish
 wish_at values s =
-    if s.present == 1 then Some (Some (take (s.end - s.begin) (drop s.begin values)))
-    else if s.present == 2 then Some None
+    if s.action == 1 then Some (Some (take (s.end - s.begin) (drop s.begin values)))
+    else if s.action == 2 then Some None
     else None
 
 -- It is one of these numbers, and bytes that are wanted are among the values.
-abbrev pub is_wish : List ℕ → UriSpan → Bool
-is_wish values s = s.present == 0 || (s.present == 2 || (s.present == 1 && (nat_le s.begin s.end && nat_le s.end (length values))))
+abbrev pub is_wish : List ℕ → UriValue → Bool
+is_wish values s = s.action == 0 || (s.action == 2 || (s.action == 1 && (nat_le s.begin s.end && nat_le s.end (length values))))
 
 abbrev pub are_wishes : List ℕ → UriChanges → Bool
 are_wishes values c =
@@ -42,7 +42,7 @@ wanted_in values c = record {
 -- what a call leaves and returns, by the string that was made or why none was
 abbrev pub IsChanged : Result Viewed ChangeError → List ℕ → List ℕ → ℕ → ℕ → Type 0
 IsChanged (Ok v) old new needed code = IsPut v.text old new needed code
-IsChanged (Err errors.MissingHost) old new needed code = IsRefused no_host old new needed code
+IsChanged (Err errors.MissingHost) old new needed code = IsRefused missing_host old new needed code
 IsChanged (Err (errors.Reference e)) old new needed code = IsRefused (code_of e) old new needed code
 IsChanged (Err (errors.TooSmall n)) old new needed code = Unit {0}
 IsChanged (Err errors.OutOfMemory) old new needed code = Unit {0}
@@ -50,7 +50,7 @@ IsChanged (Err errors.OutOfMemory) old new needed code = Unit {0}
 -- the code of a string that was written to a buffer, or was not
 abbrev pub changed_code : Result ℕ ChangeError → ℕ
 changed_code (Ok n) = accepted
-changed_code (Err errors.MissingHost) = no_host
+changed_code (Err errors.MissingHost) = missing_host
 changed_code (Err (errors.Reference e)) = code_of e
 changed_code (Err (errors.TooSmall n)) = no_room
 changed_code (Err errors.OutOfMemory) = out_of_memory

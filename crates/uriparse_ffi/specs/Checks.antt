@@ -38,6 +38,11 @@ abbrev pub port_number : Option ℕ → ℕ
 port_number None = 0
 port_number (Some n) = n
 
+-- the same, or -1 if there is none
+abbrev pub port_or_minus_one : Option ℕ → ℤ
+port_or_minus_one None = negsuc 0
+port_or_minus_one (Some n) = pos n
+
 -- the default port of a scheme, or 0 for a scheme without one and for what is no scheme
 abbrev pub default_port_of : Result Scheme SchemeError → ℕ
 default_port_of (Ok s) = port_number (default_port s)

@@ -57,9 +57,9 @@ no_component = 8
 abbrev pub no_origin : ℕ
 no_origin = 10
 
--- a user name, a password or a port has no host beside which it may stand
-abbrev pub no_host : ℕ
-no_host = 11
+-- a user name, a password or a port is set without a host
+abbrev pub missing_host : ℕ
+missing_host = 11
 
 -- what is wanted of a component has no meaning
 abbrev pub bad_change : ℕ
@@ -72,6 +72,10 @@ bad_names = 13
 -- no pair of the query is left
 abbrev pub no_pairs : ℕ
 no_pairs = 14
+
+-- the reference has no host that is an IP address
+abbrev pub no_address : ℕ
+no_address = 15
 
 -- added to the code of a base's error
 abbrev pub in_base : ℕ

@@ -1,3 +1,4 @@
+pub mod Addresses
 pub mod Code
 pub mod Components
 pub mod Hash

@@ -25,6 +25,13 @@ pub record IsFirstNamedAt (name q : List ℕ) (p : Pair) (o : UriPair) : Type 0 
   pub place : IsPairAt (length (flat_map (λ p. piece_of p ++ ampersand ∷ []) others)) p o
   pub split : length q < most → pairs q ≡ others ++ p ∷ pairs_left (left_from q o.next)
 
+-- The same of the pairs that are left from a place.
+pub record IsNextNamedAt (name q : List ℕ) (at : ℕ) (p : Pair) (o : UriPair) : Type 0 where
+  pub others : List Pair
+  pub none : list_any (is_named name) others ≡ false
+  pub place : IsPairAt (at + length (flat_map (λ p. piece_of p ++ ampersand ∷ []) others)) p o
+  pub split : length q < most → pairs_left (left_from q at) ≡ others ++ p ∷ pairs_left (left_from q o.next)
+
 -- the value of a pair, if it has one
 abbrev pub value_given : Bool → List ℕ → Option (List ℕ)
 value_given has t = if has then Some t else None

@@ -11,32 +11,40 @@ ghost use Rattle.uriparse_ffi.specs.Changes.{IsChanged, are_wishes, changed_code
 ghost use Rattle.uriparse_ffi.specs.Code as spec;
 ghost use Rattle.uriparse_ffi.specs.Put.{IsPut, IsRefused};
 
-use crate::code::{ACCEPTED, BAD_CHANGE, NO_HOST, NO_ROOM, OUT_OF_MEMORY, code_of};
+use crate::code::{ACCEPTED, BAD_CHANGE, MISSING_HOST, NO_ROOM, OUT_OF_MEMORY, code_of};
 use crate::put::refuse;
-use crate::span::UriSpan;
 use crate::texts::view;
 use uriparse::{Change, ChangeError, Changes, ReferenceView};
 
-/// What a caller wants of each component: `present` is 0 if it is kept, 1 if it is set to the bytes
-/// of the values from `begin` to `end`, and 2 if it is removed.
+/// What a caller wants of a component: `action` is 0 if it is kept, 1 if it is set to the bytes of
+/// the values from `begin` to `end`, and 2 if it is removed.
+#[repr(C)]
+#[derive(Clone, Copy)]
+pub struct UriValue {
+    pub begin: usize,
+    pub end: usize,
+    pub action: u8,
+}
+
+/// What a caller wants of each component.
 #[repr(C)]
 #[derive(Clone, Copy)]
 pub struct UriChanges {
-    pub scheme: UriSpan,
-    pub username: UriSpan,
-    pub password: UriSpan,
-    pub host: UriSpan,
-    pub port: UriSpan,
-    pub path: UriSpan,
-    pub query: UriSpan,
-    pub fragment: UriSpan,
+    pub scheme: UriValue,
+    pub username: UriValue,
+    pub password: UriValue,
+    pub host: UriValue,
+    pub port: UriValue,
+    pub path: UriValue,
+    pub query: UriValue,
+    pub fragment: UriValue,
 }
 
 /// Whether what is wanted of a component has a meaning.
-fn is_change(values: &[u8], wanted: UriSpan) -> bool
+fn is_change(values: &[u8], wanted: UriValue) -> bool
     ensures { result ≡ is_wish values.now wanted }
 {
-    match wanted.present {
+    match wanted.action {
         0 | 2 => true,
         1 => wanted.begin <= wanted.end && wanted.end <= values.len(),
         _ => false,
@@ -58,11 +66,11 @@ fn are_changes(values: &[u8], wanted: &UriChanges) -> bool
 }
 
 /// What becomes of a component.
-fn change_at(values: &[u8], wanted: UriSpan) -> Change<'_>
+fn change_at(values: &[u8], wanted: UriValue) -> Change<'_>
     requires { is_wish values.now wanted ≡ true }
     ensures { wish result ≡ wish_at values.now wanted }
 {
-    match wanted.present {
+    match wanted.action {
         1 => Change::Set(&values[wanted.begin..wanted.end]),
         2 => Change::Remove,
         _ => Change::Keep,
@@ -101,7 +109,7 @@ fn answer_change(written: Result<usize, ChangeError>, needed: &mut usize) -> u32
             *needed = len;
             NO_ROOM
         }
-        Err(ChangeError::MissingHost) => refuse(NO_HOST, needed),
+        Err(ChangeError::MissingHost) => refuse(MISSING_HOST, needed),
         Err(ChangeError::Reference(error)) => refuse(code_of(error), needed),
         Err(ChangeError::OutOfMemory) => refuse(OUT_OF_MEMORY, needed),
     }
@@ -132,7 +140,7 @@ pub fn write_changed(
     needed: &mut usize,
 ) -> u32
     ensures written { (p : Parts) (v : Viewed) → Spells text.now p → are_wishes values.now wanted.now ≡ true → changing (wanted_in values.now wanted.now) text.now ≡ Ok v → IsPut v.text out.old out.new needed.new result }
-    ensures host { (p : Parts) → Spells text.now p → are_wishes values.now wanted.now ≡ true → changing (wanted_in values.now wanted.now) text.now ≡ Err errors.MissingHost → IsRefused spec.no_host out.old out.new needed.new result }
+    ensures host { (p : Parts) → Spells text.now p → are_wishes values.now wanted.now ≡ true → changing (wanted_in values.now wanted.now) text.now ≡ Err errors.MissingHost → IsRefused spec.missing_host out.old out.new needed.new result }
     ensures rejected { (p : Parts) (e : URIReferenceError) → Spells text.now p → are_wishes values.now wanted.now ≡ true → changing (wanted_in values.now wanted.now) text.now ≡ Err (errors.Reference e) → IsRefused (spec.code_of e) out.old out.new needed.new result }
     ensures malformed { (p : Parts) → Spells text.now p → are_wishes values.now wanted.now ≡ false → IsRefused spec.bad_change out.old out.new needed.new result }
     ensures refused { (e : URIReferenceError) → fault text.now ≡ Some e → IsRefused (spec.code_of e) out.old out.new needed.new result }

@@ -1,6 +1,9 @@
-//! The order of references, whether a URI or a host is within another one, and what a host may be
-//! taken for. Nothing here allocates.
+//! The order of references, whether a text is normalized, whether a URI or a host is within another one,
+//! what a host or a segment may be taken for, and ports. Nothing here allocates.
 ghost use Rattle.std.specs.Prelude.{◌≡◌, ◌+◌, Err, IsTrue, ◌↔◌, Ok, Some, false, is_some, true};
+ghost use Rattle.uriparse_text.specs.Ambiguous.{is_ambiguous};
+ghost use Rattle.uriparse_text.specs.Segment as segments;
+ghost use Rattle.uriparse_text.specs.declared.segment.error.PathError.{PathError};
 ghost use Rattle.uriparse_authority.specs.Host as hosts;
 ghost use Rattle.uriparse_authority.specs.declared.authority.error.HostError.{HostError};
 ghost use Rattle.uriparse_authority.specs.declared.authority.host.Host.{Host};
@@ -8,15 +11,17 @@ ghost use Rattle.uriparse_scheme.specs.Scheme as schemes;
 ghost use Rattle.uriparse_reference.specs.declared.uri_reference.error.URIReferenceError.{URIReferenceError};
 ghost use Rattle.uriparse_reference.specs.Order.{reference_cmp};
 ghost use Rattle.uriparse_reference.specs.Reading.{fault};
-ghost use Rattle.uriparse_reference.specs.Reference.{Parts, Spells, host_of};
+ghost use Rattle.uriparse_reference.specs.Normal.{normal};
+ghost use Rattle.uriparse_reference.specs.Ports as ports;
+ghost use Rattle.uriparse_reference.specs.Reference.{Parts, Spells, host_of, print};
 ghost use Rattle.uriparse.specs.Within.{IsWithin};
-ghost use Rattle.uriparse_ffi.specs.Checks.{IsHostWithin, Tells, default_port_of, host_flags, order_number};
+ghost use Rattle.uriparse_ffi.specs.Checks.{IsHostWithin, Tells, default_port_of, host_flags, order_number, port_or_minus_one};
 ghost use Rattle.uriparse_ffi.specs.Code as spec;
 
-use crate::code::{ACCEPTED, IN_BASE, base_code, of_host, truth_of, uri_code};
+use crate::code::{ACCEPTED, IN_BASE, base_code, of_host, of_path, truth_of, uri_code};
 use crate::texts::{view, view_uri};
 use std::cmp::Ordering;
-use uriparse::{Host, ReferenceView, Scheme, URIView};
+use uriparse::{Host, ReferenceView, Scheme, Segment, URIView};
 
 /// The order as a number.
 fn number_of(order: Ordering) -> i32
@@ -54,6 +59,35 @@ pub fn write_order(left: &[u8], right: &[u8], order: &mut i32) -> u32
     match view(left) {
         Ok(left) => write_order_of(&left, right, order),
         Err(code) => code,
+    }
+}
+
+/// Writes whether a text is the normal form of the reference that it spells, or returns the code of its
+/// error.
+pub fn write_is_normalized(text: &[u8], normalized: &mut u8) -> u32
+    ensures checked { (p : Parts) → Spells text.now p → (result ≡ spec.accepted) × Tells (print (normal p) ≡ text.now) normalized.new }
+    ensures refused { (e : URIReferenceError) → fault text.now ≡ Some e → (result ≡ spec.code_of e) × (normalized.new ≡ normalized.old) }
+{
+    match view(text) {
+        Ok(view) => {
+            *normalized = truth_of(view.is_normalized_text());
+            ACCEPTED
+        }
+        Err(code) => code,
+    }
+}
+
+/// Writes whether readers disagree on what a segment of a path names, or returns the code of its error.
+pub fn write_is_ambiguous(segment: &[u8], ambiguous: &mut u8) -> u32
+    ensures checked { segments.IsSegment segment.now → (result ≡ spec.accepted) × (ambiguous.new ≡ spec.truth (is_ambiguous segment.now)) }
+    ensures refused { (e : PathError) → segments.reading segment.now ≡ Err e → (result ≡ spec.path_code e) × (ambiguous.new ≡ ambiguous.old) }
+{
+    match Segment::try_from_bytes(segment) {
+        Ok(segment) => {
+            *ambiguous = truth_of(segment.is_ambiguous());
+            ACCEPTED
+        }
+        Err(error) => of_path(error),
     }
 }
 
@@ -159,6 +193,38 @@ pub fn flags(text: &[u8]) -> Result<u32, u32>
     match view(text) {
         Ok(view) => Ok(flags_of(view.host())),
         Err(code) => Err(code),
+    }
+}
+
+/// The port of a reference, or the default port of its scheme; `None` without an authority, and if it has
+/// neither.
+fn port_or_default(view: ReferenceView<'_>) -> Option<u16>
+    ensures { result ≡ ports.port_or_default view.entry.parts }
+{
+    if let Some(port) = view.port() {
+        return Some(port);
+    }
+    match URIView::try_from(view) {
+        Ok(uri) => uri.port_or_default(),
+        Err(_) => None,
+    }
+}
+
+/// Writes the port of the reference that a text spells, or the default port of its scheme, or -1 if it has
+/// neither, or returns the code of the text's error.
+pub fn write_port(text: &[u8], port: &mut i32) -> u32
+    ensures found { (p : Parts) → Spells text.now p → (result ≡ spec.accepted) × (port.new ≡ port_or_minus_one (ports.port_or_default p)) }
+    ensures refused { (e : URIReferenceError) → fault text.now ≡ Some e → (result ≡ spec.code_of e) × (port.new ≡ port.old) }
+{
+    match view(text) {
+        Ok(view) => {
+            *port = match port_or_default(view) {
+                Some(number) => i32::from(number),
+                None => -1,
+            };
+            ACCEPTED
+        }
+        Err(code) => code,
     }
 }
 

@@ -19,13 +19,15 @@ pub const NO_COMPONENT: u32 = 8;
 
 pub const NO_ORIGIN: u32 = 10;
 
-pub const NO_HOST: u32 = 11;
+pub const MISSING_HOST: u32 = 11;
 
 pub const BAD_CHANGE: u32 = 12;
 
 pub const BAD_NAMES: u32 = 13;
 
 pub const NO_PAIRS: u32 = 14;
+
+pub const NO_ADDRESS: u32 = 15;
 
 pub const IN_BASE: u32 = 0x100;
 
@@ -87,7 +89,8 @@ fn of_authority(error: AuthorityError) -> u32
     }
 }
 
-fn of_path(error: PathError) -> u32
+/// The code of a path's error.
+pub fn of_path(error: PathError) -> u32
     ensures code { result ≡ spec.path_code error }
     ensures small { result ≤ 255 }
 {

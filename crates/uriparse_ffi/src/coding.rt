@@ -1,8 +1,9 @@
-//! Decoding, encoding and escaping into a caller's buffer. Nothing here allocates.
+//! Decoding, encoding, escaping and trimming into a caller's buffer. Nothing here allocates.
 ghost use Rattle.std.specs.Prelude.{◌≡◌, None, Some, Err};
 ghost use Rattle.uriparse_text.specs.declared.internal.class.Class.{Class};
 ghost use Rattle.uriparse_text.specs.declared.query.QueryError.{QueryError};
 ghost use Rattle.uriparse_text.specs.Coding.{decoded, encoded};
+ghost use Rattle.uriparse_text.specs.Link.{link};
 ghost use Rattle.uriparse_text.specs.Pairs.{encoded_in_pair};
 ghost use Rattle.uriparse_text.specs.Query as query;
 ghost use Rattle.uriparse_reference.specs.Escaped.{escaped};
@@ -11,8 +12,8 @@ ghost use Rattle.uriparse_ffi.specs.Components as components;
 ghost use Rattle.uriparse_ffi.specs.Put.{IsPut, IsRefused};
 
 use crate::code::{NO_COMPONENT, of_query};
-use crate::put::{answer_room, refuse};
-use uriparse::{Query, escape_invalid_into};
+use crate::put::{answer_room, refuse, write_plain};
+use uriparse::{Query, escape_invalid_into, trim_link};
 use uriparse_text::internal::{Class, InPair, encode_into, write_text};
 
 /// Writes the bytes that the text of a query represents, or returns the code of its error.
@@ -62,4 +63,11 @@ pub fn write_escaped(text: &[u8], out: &mut [u8], needed: &mut usize) -> u32
     ensures { IsPut (escaped text.now) out.old out.new needed.new result }
 {
     answer_room(escape_invalid_into(text, out), needed)
+}
+
+/// Writes the reference in a text that was cut out of a page.
+pub fn write_trimmed(text: &[u8], out: &mut [u8], needed: &mut usize) -> u32
+    ensures { IsPut (link text.now) out.old out.new needed.new result }
+{
+    write_plain(trim_link(text), out, needed)
 }

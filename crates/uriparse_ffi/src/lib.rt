@@ -4,10 +4,12 @@
 //! the clauses `p` is what a text spells by the grammar, and `fault` is why it spells nothing.
 #![tactic(auto)]
 
+pub mod addresses;
 pub mod changes;
 pub mod checks;
 pub mod code;
 pub mod coding;
+pub mod forms;
 pub mod laws;
 pub mod origins;
 pub mod pair_edits;

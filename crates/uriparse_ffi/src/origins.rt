@@ -1,5 +1,5 @@
-//! The text of the origin of a URI in a caller's buffer: RFC 6454, sections 4 and 6.2. Nothing here
-//! allocates.
+//! The text of the origin of a URI in a caller's buffer, and whether two URIs have one origin: RFC 6454,
+//! sections 4, 5 and 6.2. Nothing here allocates.
 ghost use Rattle.std.specs.Prelude.{◌≡◌, Some, None};
 ghost use Rattle.uriparse_reference.specs.Reading.{fault};
 ghost use Rattle.uriparse_reference.specs.Reference.{Parts, Spells};
@@ -9,7 +9,7 @@ ghost use Rattle.uriparse.specs.Origin as origins;
 ghost use Rattle.uriparse_ffi.specs.Code as spec;
 ghost use Rattle.uriparse_ffi.specs.Put.{IsPut, IsRefused};
 
-use crate::code::NO_ORIGIN;
+use crate::code::{ACCEPTED, NO_ORIGIN, truth_of};
 use crate::put::{answer, refuse};
 use crate::texts::view;
 use uriparse::{Origin, ReferenceView, URIView};
@@ -45,5 +45,43 @@ pub fn write_origin(text: &[u8], out: &mut [u8], needed: &mut usize) -> u32
     match view(text) {
         Ok(view) => write_if(origin_of(view), out, needed),
         Err(code) => refuse(code, needed),
+    }
+}
+
+/// Whether two references have one origin. A reference without an origin has it in common with none.
+fn share_origin(left: ReferenceView<'_>, right: ReferenceView<'_>) -> bool
+    ensures { result ≡ origins.have_same_origin left.entry.parts right.entry.parts }
+{
+    let (Ok(left), Ok(right)) = (URIView::try_from(left), URIView::try_from(right)) else {
+        return false;
+    };
+    left.same_origin(&right)
+}
+
+/// Writes whether a reference and the one that a text spells have one origin, or returns the code of the
+/// text's error.
+fn write_same_origin_of(left: ReferenceView<'_>, right: &[u8], same: &mut u8) -> u32
+    ensures compared { (q : Parts) → Spells right.now q → (result ≡ spec.accepted) × (same.new ≡ spec.truth (origins.have_same_origin left.entry.parts q)) }
+    ensures refused { (e : URIReferenceError) → fault right.now ≡ Some e → (result ≡ spec.code_of e) × (same.new ≡ same.old) }
+{
+    match view(right) {
+        Ok(right) => {
+            *same = truth_of(share_origin(left, right));
+            ACCEPTED
+        }
+        Err(code) => code,
+    }
+}
+
+/// Writes whether the references that two texts spell have one origin, or returns the code of a text's
+/// error. Of two faulty texts the left one is rejected.
+pub fn write_same_origin(left: &[u8], right: &[u8], same: &mut u8) -> u32
+    ensures compared { (p q : Parts) → Spells left.now p → Spells right.now q → (result ≡ spec.accepted) × (same.new ≡ spec.truth (origins.have_same_origin p q)) }
+    ensures left { (e : URIReferenceError) → fault left.now ≡ Some e → (result ≡ spec.code_of e) × (same.new ≡ same.old) }
+    ensures right { (p : Parts) (e : URIReferenceError) → Spells left.now p → fault right.now ≡ Some e → (result ≡ spec.code_of e) × (same.new ≡ same.old) }
+{
+    match view(left) {
+        Ok(left) => write_same_origin_of(left, right, same),
+        Err(code) => code,
     }
 }

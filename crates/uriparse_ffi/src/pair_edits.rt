@@ -32,7 +32,12 @@ fn fault_of(query: &[u8]) -> Option<QueryError>
 }
 
 /// Writes the text if the query is one, or returns the code of its error.
-fn write_if_query<A: Appending>(query: &[u8], text: &A, out: &mut [u8], needed: &mut usize) -> u32
+pub fn write_if_query<A: Appending>(
+    query: &[u8],
+    text: &A,
+    out: &mut [u8],
+    needed: &mut usize,
+) -> u32
     ensures written { IsQuery query.now → IsPut (A.text text.now) out.old out.new needed.new result }
     ensures refused { (e : QueryError) → reading query.now ≡ Err e → IsRefused (code.query_code e) out.old out.new needed.new result }
 {

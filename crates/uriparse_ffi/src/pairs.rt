@@ -3,7 +3,7 @@ ghost use Rattle.std.specs.Prelude.{◌≡◌, ◌+◌, ◌<◌, ◌∷◌, ◌^
 ghost use Rattle.std.specs.List.{find};
 ghost use Rattle.uriparse_text.specs.Pairs.{Pair, is_named, pair_of, pairs, pairs_left};
 ghost use Rattle.uriparse_text.specs.Starts.{most};
-ghost use Rattle.uriparse_ffi.specs.Pairs.{IsFirstNamedAt, IsPairAt, left_from};
+ghost use Rattle.uriparse_ffi.specs.Pairs.{IsFirstNamedAt, IsNextNamedAt, IsPairAt, left_from};
 
 use crate::span::{UriSpan, offset_after, place};
 use uriparse_text::internal::{Named, find_pair, split_at_delimiter, without_delimiter};
@@ -48,6 +48,19 @@ pub fn pair_at(query: &[u8], at: usize) -> Option<UriPair>
     }
     let (piece, _) = split_at_delimiter(&query[at..], b'&');
     Some(place_pair(at, piece))
+}
+
+/// Where the first pair of this name is that begins at this place of a query or later; `None` if there is
+/// none.
+pub fn next_named_pair(query: &[u8], at: usize, name: &[u8]) -> Option<UriPair>
+    ensures found { (p : Pair) → find (is_named name.now) (pairs_left (left_from query.now at)) ≡ Some p → IsSome result × IfSome result (λ o. IsNextNamedAt name.now query.now at p o) }
+    ensures none { find (is_named name.now) (pairs_left (left_from query.now at)) ≡ None → result ≡ None }
+{
+    if at > query.len() {
+        return None;
+    }
+    let left = find_pair(&Named(name), &query[at..])?;
+    pair_at(query, query.len() - left.len())
 }
 
 /// Where the first pair of this name is; `None` if there is none.

@@ -5,6 +5,7 @@ ghost use Rattle.uriparse_ffi.specs.Put.{IsPut, needed_for, written_code};
 
 use crate::code::{ACCEPTED, IN_BASE, NO_ROOM, NO_SCHEME, TOO_MANY_SEGMENTS};
 use uriparse::{BufferError, TooSmall};
+use uriparse_text::internal::{Appending, append, write_text};
 
 /// Returns an error's code, and sets `needed` to 0.
 pub fn refuse(code: u32, needed: &mut usize) -> u32
@@ -49,4 +50,23 @@ pub fn answer_room(written: Result<usize, TooSmall>, needed: &mut usize) -> u32
             NO_ROOM
         }
     }
+}
+
+/// Bytes that are written as they are.
+#[derive(Clone, Copy)]
+struct Plain<'b>(&'b [u8]);
+
+impl<'b> Appending for Plain<'b> {
+    ghost text = { λ s. s.0.now };
+
+    fn append_to(&self, out: &mut [u8], len: usize) -> usize {
+        append(self.0, out, len)
+    }
+}
+
+/// Writes the bytes.
+pub fn write_plain(bytes: &[u8], out: &mut [u8], needed: &mut usize) -> u32
+    ensures { IsPut bytes.now out.old out.new needed.new result }
+{
+    answer_room(write_text(&Plain(bytes), out), needed)
 }

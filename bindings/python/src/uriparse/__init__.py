@@ -6,6 +6,7 @@ is expected, a `URI` stands for its str."""
 from __future__ import annotations
 
 import enum
+import ipaddress
 from dataclasses import dataclass, field
 from typing import (Any, AnyStr, Dict, Generic, Iterable, Iterator, List, Literal, Mapping, NamedTuple, Optional, Tuple, TypeVar, Union,
                     overload)
@@ -25,16 +26,25 @@ except ImportError as _error:
     raise ImportError("%s. To build the module, run `(cd crates/uriparse_c && rt lib)`, then `pip install ./bindings/python`" % _error) from None
 
 from ._errors import IN_BASE, NO_ROOM, Code, Component, URIError, error_text
-from ._uriparse import (compare, decode, default_port, equal, hash_of, host_is_within, is_uri, is_within, normalize, origin, pair, pairs,
-                        parse, relativize, resolve, with_appended_pair, with_pair)
+# methods.tsv: imports
+from ._uriparse import (compare, decode, default_port, equal, form_decode, hash_of, host_is_within, is_ambiguous,
+                        is_normalized, is_uri, is_within, normalize, origin, pair, pair_values, pairs, parse,
+                        port_or_default, relativize, resolve, same_origin, trim_link, with_appended_pair, with_pair)
+# methods.tsv: end
 
 __all__ = [
     "COMPONENTS", "ENCODED", "IN_BASE", "NO_ROOM", "URI", "Buffer", "Code", "Component", "Components", "Encodable",
-    "HostFlag", "HostKind", "Parts", "Span", "Text", "URIError", "compare", "decode", "default_port", "encode", "equal",
-    "error_text", "escape", "first_fault", "get_many", "hash_of", "host_flags", "host_is_within", "is_uri", "is_within",
-    "normalize", "normalize_many", "origin", "pair", "pairs", "parse", "parse_many", "relativize", "replace", "resolve",
-    "resolve_many", "spans", "with_appended_pair", "with_pair", "without_pair", "without_pairs"]
-__version__ = "0.3.0"
+    "HostFlag", "HostKind", "Parts", "Span", "Text", "URIError", "encode", "error_text", "get_many", "normalize_many",
+    "parse_many", "replace", "resolve_many", "without_pair", "without_pairs"]
+# methods.tsv: names
+__all__ += ["compare", "decode", "default_port", "equal", "escape", "first_fault", "form_decode", "hash_of",
+            "host_address", "host_flags", "host_is_within", "is_ambiguous", "is_normalized", "is_uri", "is_within",
+            "normalize", "origin", "pair", "pair_values", "pairs", "parse", "port_or_default", "relativize", "resolve",
+            "same_origin", "spans", "trim_link", "with_appended_pair", "with_pair"]
+# methods.tsv: end
+__version__ = "0.4.0"
+if _uriparse.version != __version__:
+    raise ImportError("the extension module has version %s of the library, and the package is version %s" % (_uriparse.version, __version__))
 
 Encodable = Literal["username", "password", "segment", "query", "fragment", "pair"]
 
@@ -142,6 +152,12 @@ def first_fault(text: Union[Text, URI]) -> Optional[Tuple[Code, int]]:
 def host_flags(text: Union[Text, URI]) -> HostFlag:
     """What the name of a reference's host may be taken for. An address has no flag, and neither has a reference without a host."""
     return HostFlag(_uriparse.host_flags(text))
+
+
+def host_address(text: Union[Text, URI]) -> Union[ipaddress.IPv4Address, ipaddress.IPv6Address, None]:
+    """The IPv4 or IPv6 address that is the host of a reference, or None. A name isn't looked up, and has none."""
+    found = _uriparse.host_address(text)
+    return None if found is None else ipaddress.ip_address(found)
 
 
 class _Keep(enum.Enum):
@@ -306,6 +322,10 @@ class URI(_uriparse.Compared):
         """The decoded value of the first pair with this name, or None."""
         return pair(self, name)
 
+    def pair_values(self, name: str) -> List[str]:
+        """The decoded values of all pairs with this name."""
+        return pair_values(self, name)
+
     def with_pair(self: _URI, name: str, value: Union[str, int, None]) -> _URI:
         """With one pair of this name, in place of the first one."""
         return type(self)(with_pair(self, name, value))
@@ -333,6 +353,22 @@ class URI(_uriparse.Compared):
     def host_flags(self) -> HostFlag:
         """What the host may be taken for."""
         return host_flags(self)
+
+    def host_address(self) -> Union[ipaddress.IPv4Address, ipaddress.IPv6Address, None]:
+        """The address that is the host, or None."""
+        return host_address(self)
+
+    def port_or_default(self) -> Optional[int]:
+        """The port, or the default port of the scheme, or None."""
+        return port_or_default(self)
+
+    def same_origin(self, other: Union[str, URI]) -> bool:
+        """Whether both have an origin and it is one."""
+        return same_origin(self, other)
+
+    def is_normalized(self) -> bool:
+        """Whether it is its own normal form."""
+        return is_normalized(self)
 
     def origin(self: _URI) -> Optional[_URI]:
         """The origin, or None if it has none."""

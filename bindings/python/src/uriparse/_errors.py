@@ -13,6 +13,7 @@ IN_BASE = 0x100
 class Code(enum.IntEnum):
     """The codes of uriparse.h, by their names there. Another number is a code without a name."""
 
+    # codes.tsv: codes
     OK = 0
     OUT_OF_MEMORY = 1
     NO_ROOM = 2
@@ -26,6 +27,7 @@ class Code(enum.IntEnum):
     BAD_CHANGE = 12
     BAD_NAMES = 13
     NO_PAIRS = 14
+    NO_ADDRESS = 15
     USERNAME_COLON = 0x10
     USERNAME_BYTE = 0x11
     USERNAME_ESCAPE = 0x12
@@ -47,6 +49,7 @@ class Code(enum.IntEnum):
     SCHEME_EMPTY = 0x80
     SCHEME_BYTE = 0x81
     SCHEME_LETTER = 0x82
+    # codes.tsv: end
 
     @classmethod
     def _missing_(cls, value: object) -> Optional[Code]:
@@ -61,49 +64,56 @@ class Code(enum.IntEnum):
 # The component that an error is about, by the upper digit of its code, or by the code.
 _COMPONENTS_OF_DIGITS: Dict[int, Component] = {
     1: "username", 2: "password", 3: "host", 4: "port", 5: "path", 6: "query", 7: "fragment", 8: "scheme"}
+# codes.tsv: components
 _COMPONENTS_OF_CODES: Dict[int, Component] = {
     Code.NO_SCHEME: "scheme", Code.COLON_IN_SEGMENT: "path", Code.TOO_MANY_SEGMENTS: "path", Code.TWO_SLASHES: "path",
     Code.MISSING_HOST: "host", Code.BAD_NAMES: "query", Code.NO_PAIRS: "query"}
-_ERROR_TEXTS = {
-    0: "no error",
-    1: "out of memory",
-    2: "the buffer is too small",
-    3: "the scheme is missing",
-    4: "a colon in the first segment of a reference without a scheme",
-    5: "the path has too many segments",
-    6: "without an authority the path would start with two slashes",
-    8: "no component has this number",
-    10: "the reference has no origin",
-    11: "a user name, password or port without a host",
-    12: "a change without a meaning",
-    13: "the names of pairs are no query",
-    14: "no pair of the query is left",
-    0x10: "a colon in the user name",
-    0x11: "invalid byte in the user name",
-    0x12: "invalid percent-encoding in the user name",
-    0x21: "invalid byte in the password",
-    0x22: "invalid percent-encoding in the password",
-    0x31: "invalid byte or percent-encoding in the host",
-    0x32: "invalid byte in the IPv6 address",
-    0x33: "invalid form of the IPv6 address",
-    0x34: "invalid byte in the IPvFuture address",
-    0x35: "invalid form of the IPvFuture address",
-    0x41: "invalid byte in the port",
-    0x42: "the port is above 65535",
-    0x51: "invalid byte in the path",
-    0x52: "invalid percent-encoding in the path",
-    0x61: "invalid byte in the query",
-    0x62: "invalid percent-encoding in the query",
-    0x71: "invalid byte in the fragment",
-    0x72: "invalid percent-encoding in the fragment",
-    0x80: "the scheme is empty",
-    0x81: "invalid byte in the scheme",
-    0x82: "the scheme does not start with a letter",
-}
 
 # The errors that no byte has: what is missing, or what is wrong of several components together.
-_UNPLACED = (Code.OUT_OF_MEMORY, Code.NO_ROOM, Code.NO_SCHEME, Code.TOO_MANY_SEGMENTS, Code.TWO_SLASHES, Code.NO_COMPONENT, Code.NO_ORIGIN,
-             Code.MISSING_HOST, Code.BAD_CHANGE, Code.NO_PAIRS, Code.SCHEME_EMPTY)
+_UNPLACED = (Code.OUT_OF_MEMORY, Code.NO_ROOM, Code.NO_SCHEME, Code.TOO_MANY_SEGMENTS, Code.TWO_SLASHES,
+             Code.NO_COMPONENT, Code.NO_ORIGIN, Code.MISSING_HOST, Code.BAD_CHANGE, Code.NO_PAIRS, Code.NO_ADDRESS,
+             Code.SCHEME_EMPTY)
+# codes.tsv: end
+
+_ERROR_TEXTS = {
+    # codes.tsv: words
+    0: "no error",
+    1: "out of memory",
+    2: "buffer too small",
+    3: "not URI",
+    4: "schemeless path URI reference starts with colon segment",
+    5: "exceeded maximum path length",
+    6: "absolute path URI reference starts with two slashes",
+    8: "no component has this number",
+    10: "the reference has no origin",
+    11: "user name, password or port without a host",
+    12: "a change without a meaning",
+    13: "invalid names of pairs",
+    14: "no pair of the query is left",
+    15: "the host is no IP address",
+    0x10: "username contains a colon character",
+    0x11: "invalid username character",
+    0x12: "invalid username percent encoding",
+    0x21: "invalid password character",
+    0x22: "invalid password percent encoding",
+    0x31: "invalid host IPv4 or registered name character",
+    0x32: "invalid host IPv6 character",
+    0x33: "invalid host IPv6 format",
+    0x34: "invalid host IPvFuture character",
+    0x35: "invalid host IPvFuture format",
+    0x41: "invalid port character",
+    0x42: "port overflow",
+    0x51: "invalid path character",
+    0x52: "invalid path percent encoding",
+    0x61: "invalid query character",
+    0x62: "invalid query percent encoding",
+    0x71: "invalid fragment character",
+    0x72: "invalid fragment percent encoding",
+    0x80: "scheme is empty",
+    0x81: "invalid scheme character",
+    0x82: "scheme starts with non-alphabetic character",
+    # codes.tsv: end
+}
 
 
 def error_text(code: int) -> str:

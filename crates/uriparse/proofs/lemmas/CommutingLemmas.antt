@@ -24,10 +24,10 @@ swapped c d o (inr e) = ap (λ w. changed w (changed c o)) e ∙ sym (ap (λ w. 
 
 -- ---- a user name and a password
 
-abbrev password_of : (a b : Wish) (u w : Option (List ℕ)) → Option (List ℕ)
+abbrev pub password_of : (a b : Wish) (u w : Option (List ℕ)) → Option (List ℕ)
 password_of a b u w = changed b (password_after (changed a u) w)
 
-abbrev username_of : (a b : Wish) (u w : Option (List ℕ)) → Option (List ℕ)
+abbrev pub username_of : (a b : Wish) (u w : Option (List ℕ)) → Option (List ℕ)
 username_of a b u w = with_empty (changed a u) (password_of a b u w)
 
 stays : (x y : Option (List ℕ)) → (password_after (with_empty x y) y ≡ y) × (with_empty (with_empty x y) y ≡ with_empty x y)
@@ -42,7 +42,7 @@ nothing_after a b u w =
     let s = stays (changed a u) (password_of a b u w) in
     (s.0, ap (with_empty (username_of a b u w)) s.0 ∙ s.1)
 
-nothing_before : (a b : Wish) (u w : Option (List ℕ)) → password_after u w ≡ w → with_empty u w ≡ u
+pub nothing_before : (a b : Wish) (u w : Option (List ℕ)) → password_after u w ≡ w → with_empty u w ≡ u
     → (password_of a b (username_of None None u w) (password_of None None u w) ≡ password_of a b u w)
     × (username_of a b (username_of None None u w) (password_of None None u w) ≡ username_of a b u w)
 nothing_before a b u w i j =
@@ -68,20 +68,20 @@ users a b e f u w (inr (k, l)) i j =
 
 -- ---- an authority
 
-abbrev host_in : Option AuthorityStrings → Option (List ℕ)
+abbrev pub host_in : Option AuthorityStrings → Option (List ℕ)
 host_in o = option_map (λ (a : AuthorityStrings). a.host) o
 
-abbrev user_in : Option AuthorityStrings → Option (List ℕ)
+abbrev pub user_in : Option AuthorityStrings → Option (List ℕ)
 user_in o = option_and_then (λ (a : AuthorityStrings). a.username) o
 
-abbrev password_of_it : Option AuthorityStrings → Option (List ℕ)
+abbrev pub password_of_it : Option AuthorityStrings → Option (List ℕ)
 password_of_it o = option_and_then (λ (a : AuthorityStrings). a.password) o
 
-abbrev port_in : Option AuthorityStrings → Option (List ℕ)
+abbrev pub port_in : Option AuthorityStrings → Option (List ℕ)
 port_in o = option_and_then (λ (a : AuthorityStrings). a.port) o
 
 -- a password stands with a user name
-abbrev IsPairedIn : Option AuthorityStrings → Type 0
+abbrev pub IsPairedIn : Option AuthorityStrings → Type 0
 IsPairedIn o = (password_after (user_in o) (password_of_it o) ≡ password_of_it o) × (with_empty (user_in o) (password_of_it o) ≡ user_in o)
 
 both_with : (c d : Wanted) (o : Option AuthorityStrings) (g : List ℕ) → AreApart c d → IsPairedIn o
@@ -94,7 +94,7 @@ both_with c d o g apart pair =
     ∙ ap (λ x. record { username = x; password = right.password; host = g; port = left.port }) m.1
     ∙ ap (λ x. record { username = right.username; password = right.password; host = g; port = x }) (swapped c.port d.port (port_in o) apart.port)
 
-no_host : (o : Option AuthorityStrings) → host_in o ≡ None → o ≡ None
+pub no_host : (o : Option AuthorityStrings) → host_in o ≡ None → o ≡ None
 no_host None e = refl
 no_host (Some a) e = cc
 
@@ -122,7 +122,7 @@ nothing_set (Some None) (Some (Some x)) n e = cc
 nothing_set (Some (Some x)) b n e = cc
 
 -- what a second change makes beside a host depends on the first change's user name, password and port alone
-then_with : (c d : Wanted) (o a : Option AuthorityStrings) (h : Option (List ℕ)) (g : List ℕ) → changed_authority c o h ≡ Ok a → (h ≡ None → o ≡ None)
+pub then_with : (c d : Wanted) (o a : Option AuthorityStrings) (h : Option (List ℕ)) (g : List ℕ) → changed_authority c o h ≡ Ok a → (h ≡ None → o ≡ None)
     → authority_with d a g ≡ authority_with d (Some (authority_with c o g)) g
 then_with c d o a (Some k) g e gone =
     let same : Some (authority_with c o k) ≡ a = cc in ap (λ x. authority_with d x g) (sym same)
@@ -183,13 +183,13 @@ one_authority c d o a b x y apart pair i j k l =
         ∙ sym (then_with d c o x (changed d.host (host_in o)) g k (λ h. no_host o (gone d.host c.host (host_in o) g (turned c.host d.host keeps) turn h))))
         ∙ sym (made_with c x y g n)
 
-same_some : (d : Wanted) (o a : Option AuthorityStrings) → changed_authority d o (changed d.host (host_in o)) ≡ Ok a → d.host ≡ None → is_some a ≡ is_some o
+pub same_some : (d : Wanted) (o a : Option AuthorityStrings) → changed_authority d o (changed d.host (host_in o)) ≡ Ok a → d.host ≡ None → is_some a ≡ is_some o
 same_some d o a e k =
     sym (some_host a) ∙ ap is_some (hosted d o (changed d.host (host_in o)) a e ∙ ap (λ w. changed w (host_in o)) k) ∙ some_host o
 
 -- ---- a path
 
-kept : (v : Bool) (h : List ℕ) → changed_path None v v h ≡ h
+pub kept : (v : Bool) (h : List ℕ) → changed_path None v v h ≡ h
 kept true h = refl
 kept false h = refl
 
@@ -265,7 +265,7 @@ one_order c d s x y z w apart pair fits i j =
         sym (one_path d.path c.path (is_some s.authority) (is_some z.authority) (is_some y.authority) (is_some x.authority) s.path fits f
         (ap is_some authorities ∙ same_some c z.authority w.authority j.then e) (same_some c s.authority x.authority i.first e))
 
-paired_in : (o : Option (List ℕ)) → IsPairedIn (option_map authority_strings o)
+pub paired_in : (o : Option (List ℕ)) → IsPairedIn (option_map authority_strings o)
 paired_in None = (refl, refl)
 paired_in (Some a) = by_user (userinfo_text a)
   where

@@ -30,7 +30,7 @@ use Rattle.uriparse_reference.proofs.lemmas.reading.TextEditLemmas.{own_cut}
 
 -- ---- the strings of a text, put together
 
-authority_made : (o : Option (List ℕ)) → option_map authority_whole (option_map authority_strings o) ≡ o
+pub authority_made : (o : Option (List ℕ)) → option_map authority_whole (option_map authority_strings o) ≡ o
 authority_made None = refl
 authority_made (Some a) = ap Some (sym (authorities.whole_is a))
 
@@ -114,7 +114,7 @@ authority_kept t None = refl
 authority_kept t (Some a) =
     ap (λ (x : AuthorityStrings). Ok (record (strings t) { authority = Some x })) (same_user (userinfo_text a) (authority.port_text a) (authority.host_text a))
 
-strings_kept : (t : List ℕ) → changed_strings unchanged (strings t) ≡ Ok (strings t)
+pub strings_kept : (t : List ℕ) → changed_strings unchanged (strings t) ≡ Ok (strings t)
 strings_kept t = authority_kept t (authority_text t)
 
 pub nothing_changed : (t : List ℕ) (p : Parts) → Spells t p → changing unchanged t ≡ Ok (record { text = t; parts = p })

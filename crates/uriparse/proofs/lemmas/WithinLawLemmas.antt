@@ -17,7 +17,7 @@ use Rattle.uriparse_text.specs.Bytes.{dot}
 use Rattle.uriparse_text.specs.Canonical.{canonical}
 use Rattle.uriparse_text.specs.Segment.{is_segment}
 use Rattle.uriparse_text.proofs.lemmas.canonical.DotLemmas.{canonical-dot}
-use Rattle.uriparse_path.specs.Dots.{all_but_last, has_dot_segment, is_double_dot, is_single_dot}
+use Rattle.uriparse_path.specs.Dots.{all_but_last, has_dot_segment, is_double_dot}
 use Rattle.uriparse_path.specs.Edits.{dotted}
 use Rattle.uriparse_path.specs.Normal.{canonical_path, pnormal}
 use Rattle.uriparse_path.specs.Path.{PathParts, has_two_slashes, text}

@@ -1,13 +1,12 @@
 -- URIs below other URIs.
-use Rattle.std.proofs.Common.{◌≡◌, ◌↔◌, ℕ, ◌<◌, ◌≤◌, Bool, true, false, List, Option, Some, None, refl, sym, ap, subst, ◌∙◌, arith}
-use Rattle.std.specs.Prelude.{IfSome, IsTrue, bytes_eq}
-use Rattle.std.specs.Bool.{Decides}
+use Rattle.std.proofs.Common.{◌≡◌, ◌↔◌, ℕ, ◌<◌, Bool, false, List, Option, Some, None, sym, ap, subst, ◌∙◌, arith}
+use Rattle.std.specs.Prelude.{IfSome, IsTrue}
 use Rattle.std.proofs.lemmas.Bool.{cond-false}
 use Rattle.std.proofs.lemmas.Slice.Eq.{bytes_eq-Decides}
 use Rattle.uriparse_authority.specs.Authority as authority
 use Rattle.uriparse_authority.specs.Port as port
 use Rattle.uriparse_authority.proofs.lemmas.authorities.AuthorityLemmas.{tested}
-use Rattle.uriparse_path.specs.Path.{has_hidden_root, respelled, spelled, text}
+use Rattle.uriparse_path.specs.Path.{has_hidden_root, spelled, text}
 use Rattle.uriparse_path.specs.Normal.{pnormal}
 use Rattle.uriparse_path.specs.Within.{IsPathWithin, removes_unclear}
 use Rattle.uriparse_path.proofs.lemmas.text.PathTextLemmas.{spelled-text}
@@ -21,7 +20,7 @@ pub port_fits : (n : Option ℕ) → IfSome n (λ k. k < 65536) → IfSome n por
 port_fits None h = h
 port_fits (Some n) h = omega (arith, h)
 
-valid_with_port : (a : authority.AuthorityParts) (n : Option ℕ) → authority.Valid a → IfSome n port.IsPort → authority.Valid (authority.with_port a n)
+pub valid_with_port : (a : authority.AuthorityParts) (n : Option ℕ) → authority.Valid a → IfSome n port.IsPort → authority.Valid (authority.with_port a n)
 valid_with_port a n v h = record { is_username = v.is_username; is_password = v.is_password; paired = v.paired; is_host = v.is_host; is_port = h }
 
 pub same_authority : (a b : authority.AuthorityParts) (m n : Option ℕ) (r : Bool) → authority.Valid a → authority.Valid b → IfSome m port.IsPort → IfSome n port.IsPort

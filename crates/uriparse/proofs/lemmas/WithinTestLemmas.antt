@@ -1,18 +1,15 @@
 -- The test of being below a URI.
-use Rattle.std.proofs.Common.{◌≡◌, ◌↔◌, ℕ, ◌<◌, Bool, true, false, not, List, [], ◌∷◌, ◌++◌, length, length-append, drop, take, Option, Some, None, refl, sym, ap, ◌∙◌, arith, ◌&&◌, ◌||◌, append-nil}
+use Rattle.std.proofs.Common.{◌≡◌, ◌↔◌, ℕ, ◌<◌, Bool, true, false, not, List, [], ◌∷◌, ◌++◌, length, drop, Option, Some, None, refl, ap, ◌∙◌, arith, ◌&&◌, ◌||◌}
 use Rattle.std.specs.Prelude.{◌==◌, bytes_eq}
-use Rattle.std.specs.Option.{option_eq, option_map}
-use Rattle.std.proofs.lemmas.Bool.{and_from, and_parts, eq-eqb, eqb-true, false≢true, ne_eqb, not-true}
+use Rattle.std.specs.Option.{option_eq}
+use Rattle.std.proofs.lemmas.Bool.{and_from, and_parts, eq-eqb, eqb-true, false≢true, not-true}
 use Rattle.std.proofs.lemmas.Slice.Eq.{bytes_eq-Decides}
-use Rattle.std.proofs.Math.Bool.{or-true}
 use Rattle.std.proofs.Math.Seq.{drop-append_seam}
-use Rattle.uriparse_authority.specs.Authority as authority
-use Rattle.uriparse_scheme.specs.Scheme as scheme
 use Rattle.uriparse_path.specs.Dots.{all_but_last}
 use Rattle.uriparse_path.specs.Normal.{pnormal}
 use Rattle.uriparse_path.specs.Within.{AreWithin, between_slashes, has_ambiguous, removes_unclear}
 use Rattle.uriparse_reference.specs.Reference.{Parts}
-use Rattle.uriparse.specs.Within.{IsWithin, are_clear, are_within, begins_with, is_same_place, is_within, with_used_port}
+use Rattle.uriparse.specs.Within.{IsWithin, are_clear, are_within, begins_with, is_same_place, is_within}
 
 -- ---- lists
 

@@ -13,10 +13,12 @@ use uriparse_text::query::Query;
 
 impl<K: ReferenceKind> TextOf<K> {
     /// Sets or removes the query, as [`ReferenceText::set_query`](uriparse_reference::uri_reference::ReferenceText::set_query)
-    /// does. Allocates once, exactly the new text's length. If memory runs out, the text is unchanged.
+    /// does. Allocates once, exactly the new text's length, or not at all if the text stays the same. If
+    /// memory runs out, the text is unchanged.
     pub fn set_query(&mut self, alloc: Global, query: Option<Query<'_>>) -> Result<(), AllocError>
         ensures text { MatchResult result (λ _. self.new.text ≡ with_query self.old.text query.entry) (λ _. self.new ≡ self.old) }
         ensures parts { IfOk result (λ _. edited self.old.parts (edits.Query query.entry) ≡ Ok self.new.parts) }
+        ensures takes_no_memory { with_query self.old.text query.entry ≡ self.old.text → IsOk result }
     {
         self.text.set_query(alloc, query)?;
         Ok(())

@@ -225,6 +225,25 @@ impl<'u> URI<'u> {
 }
 
 impl<'u> URIView<'u> {
+    /// The port, or the scheme's default port, as [`URI::port_or_default`](URI::port_or_default) returns it.
+    /// Does not allocate.
+    ///
+    /// ```
+    /// assert!(URIView::try_from_str("https://h/a")?.port_or_default() == Some(443));
+    /// assert!(URIView::try_from_str("https:a")?.port_or_default() == None);
+    /// ```
+    pub fn port_or_default(&self) -> Option<u16>
+        ensures { result ≡ port_or_default self.now.parts }
+    {
+        if !self.view.has_authority() {
+            return None;
+        }
+        match self.view.port() {
+            Some(port) => Some(port),
+            None => self.scheme().default_port(),
+        }
+    }
+
     /// The origin, as [`URI::origin`](URI::origin) returns it. Does not allocate.
     pub fn origin(&self) -> Option<Origin<'u>>
         ensures { result ≡ spec.origin self.now.parts }

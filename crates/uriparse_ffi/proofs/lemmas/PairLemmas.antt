@@ -13,7 +13,7 @@ use Rattle.uriparse_text.specs.Written.{IsFirstAt}
 use Rattle.uriparse_text.proofs.lemmas.readings.CutLemmas.{before_after}
 use Rattle.uriparse_text.proofs.lemmas.readings.NamedLemmas.{find_at}
 use Rattle.uriparse_text.proofs.lemmas.readings.PairLemmas.{first_pair}
-use Rattle.uriparse_ffi.specs.Pairs.{IsFirstNamedAt, IsPairAt, left_from}
+use Rattle.uriparse_ffi.specs.Pairs.{IsFirstNamedAt, IsNextNamedAt, IsPairAt, left_from}
 use Rattle.uriparse_ffi.specs.declared.pairs.UriPair.{UriPair}
 use Rattle.uriparse_ffi.proofs.lemmas.TextLemmas.{some_is}
 
@@ -115,5 +115,54 @@ module _ (name q left : List ℕ) (p : Pair) (at : IsFirstAt (is_named name) q l
       split = λ short.
           at.split ∙ ap (λ l. at.others ++ l) (first_pair left ∙ ap (λ r. r ∷ others) first)
           ∙ ap (λ l. at.others ++ p ∷ l) (sym (later p others from_place short));
+    },
+  )
+
+-- ---- the next pair of a name
+
+-- what is left from the place that a text precedes, after a place before it
+left_after : (q front left : List ℕ) (at : ℕ) → at ≤ length q → drop at q ≡ front ++ left
+    → (length q - length left ≡ at + length front) × (left_from q (length q - length left) ≡ Some left)
+left_after q front left at within whole =
+    let size : length q - at ≡ length front + length left = sym (length-drop at q) ∙ ap length whole ∙ length-append front left in
+    let place : length q - length left ≡ at + length front = omega (arith, size) in (
+      place,
+      left_some q (length q - length left) (omega (arith, size))
+          ∙ ap (λ n. Some (drop n q)) place ∙ sym (left_twice_some at (length front))
+          ∙ ap (λ t. Some (drop (length front) t)) whole ∙ ap (λ t. Some t) (drop-append_seam front left),
+    )
+  where
+    left_twice_some : (at n : ℕ) → Some (drop n (drop at q)) ≡ Some (drop (at + n) q)
+    left_twice_some at n = ap (λ t. Some t) (drop-drop n at q)
+
+module _ (name q left : List ℕ) (at : ℕ) (p : Pair) (within : at ≤ length q) (first_at : IsFirstAt (is_named name) (drop at q) left)
+    (is : find (is_named name) (pairs (drop at q)) ≡ Some p) where
+  next : pair_of (before ampersand left) ≡ p
+  next = some_is (pair_of (before ampersand left)) p (sym (find_at (is_named name) (drop at q) left first_at) ∙ is)
+
+  abbrev later_pairs : List Pair
+  later_pairs = pairs_left (after ampersand left)
+
+  abbrev front : List ℕ
+  front = flat_map (λ p. piece_of p ++ ampersand ∷ []) first_at.others
+
+  from_there : pairs_left (left_from q (length q - length left)) ≡ p ∷ later_pairs
+  from_there = ap pairs_left (left_after q front left at within first_at.whole).1 ∙ first_pair left ∙ ap (λ r. r ∷ later_pairs) next
+
+  pub next_named_at : (r : Option UriPair)
+      → ((p : Pair) (ps : List Pair) → pairs_left (left_from q (length q - length left)) ≡ p ∷ ps → IsSome r × IfSome r (λ o. IsPairAt (length q - length left) p o))
+      → ((p : Pair) (ps : List Pair) → pairs_left (left_from q (length q - length left)) ≡ p ∷ ps → length q < most
+      → IfSome r (λ o. pairs_left (left_from q o.next) ≡ ps))
+      → IsSome r × IfSome r (λ o. IsNextNamedAt name q at p o)
+  next_named_at None found later = let some = (found p later_pairs from_there).0 in absurd (cc)
+  next_named_at (Some o) found later = (
+    (found p later_pairs from_there).0,
+    record {
+      others = first_at.others;
+      none = first_at.none;
+      place = subst (λ n. IsPairAt n p o) (left_after q front left at within first_at.whole).0 (found p later_pairs from_there).1;
+      split = λ short.
+          ap pairs_left (left_some q at within) ∙ first_at.split ∙ ap (λ l. first_at.others ++ l) (first_pair left ∙ ap (λ r. r ∷ later_pairs) next)
+          ∙ ap (λ l. first_at.others ++ p ∷ l) (sym (later p later_pairs from_there short));
     },
   )

@@ -37,4 +37,12 @@ returns c = record {
   path_then_host = refl;
   username_then_password = refl;
   password_then_username = refl;
+  own_host = refl;
+  own_path = refl;
+  not_a_reference = refl;
+  last_host = refl;
+  removed_host = refl;
+  last_username = refl;
+  username_alone = refl;
+  kept_host_path = refl;
 }

@@ -5,6 +5,7 @@ use Rattle.uriparse.proofs.lemmas.ChangeLawLemmas.{fragment_made, made_cut, quer
 use Rattle.uriparse.proofs.lemmas.UnchangedLemmas.{nothing_changed}
 use Rattle.uriparse.proofs.lemmas.ChangedPartLemmas.{components_made, host_made, made_again, password_made, port_made, username_made}
 use Rattle.uriparse.proofs.lemmas.CommutingLemmas.{commuting}
+use Rattle.uriparse.proofs.lemmas.ReplacedLemmas.{last_change, own_changed}
 use Rattle.uriparse.proofs.laws.one_change.Goals as goal
 
 pub returns : goal.returns
@@ -23,4 +24,6 @@ returns c = record {
   again = made_again;
   commuting = commuting;
   twice = λ d e t v w h k. query_made e v.text w k ∙ ap (changed e.query) (query_made d t v h);
+  own = own_changed;
+  last = last_change;
 }

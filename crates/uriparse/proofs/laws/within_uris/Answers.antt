@@ -3,6 +3,7 @@ use Rattle.uriparse_path.specs.Within.{between_slashes}
 use Rattle.uriparse.proofs.lemmas.WithinLawLemmas.{again_place, are_within_again, are_within_itself, one_directory, within_equals, within_normal, within_normal_back, within_normal_base}
 use Rattle.uriparse.proofs.lemmas.WithinTargetLemmas.{own_below, target_below}
 use Rattle.std.proofs.Common.{false, refl}
+use Rattle.uriparse.proofs.lemmas.WithinOriginLemmas.{within_origin}
 use Rattle.uriparse.proofs.lemmas.WithinTestLemmas.{within_tested}
 use Rattle.uriparse.proofs.laws.within_uris.Goals as goal
 
@@ -26,4 +27,5 @@ returns c = record {
   own = own_below;
   equals = within_equals;
   tested = within_tested;
+  origin = within_origin;
 }
