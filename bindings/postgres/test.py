@@ -157,6 +157,7 @@ def test_rows(database: str) -> str:
         ("uri_same_origin(uri 'http://h', 'http://h:81')", "f"), ("uri_same_origin('http://h', uri 'http://h:80')", "t"),
         ("uri_same_origin('a b', 's:')", None), ("uri_is_normalized('http://h/')", "t"), ("uri_is_normalized(uri 'http://h')", "f"),
         ("uri_is_normalized('a b')", None), ("uri_is_ambiguous('..;a')", "t"), ("uri_is_ambiguous('a/b')", None),
+        ("uri_fault_text('a b')", "invalid path character"), ("uri_fault_text('a')", None), ("uri_fault_text(NULL)", None),
         ("uri_port_or_default(uri 'https://h')", "443"), ("uri_port_or_default('//h:0')", "0"), ("uri_port_or_default('//h')", None),
         ("uri_host_inet('http://1.2.3.4/')", "1.2.3.4"), ("uri_host_inet(uri '//[2001:DB8:0::7]:1')", "2001:db8::7"),
         ("masklen(uri_host_inet('//1.2.3.4'))", "32"), ("masklen(uri_host_inet('//[::1]'))", "128"), ("family(uri_host_inet('//[::1]'))", "6"),
@@ -223,6 +224,7 @@ def test_meanings() -> str:
             raised.append((expression, "ERROR:  22023: " + texts[code]))
         elif row.call == "check":
             wanted.append((expression, "f"))
+            wanted.append((expression.replace("uri_valid", "uri_fault_text"), texts[code]))
             raised.append((expression.replace("uri_valid", "uri_check"), "%s / DETAIL:  First wrong byte: %s." % (syntax, place)))
             raised.append(("uri " + spelled(row.values[0]), "%s / DETAIL:  First wrong byte: %s." % (syntax, place)))
         else:

@@ -121,6 +121,19 @@ uri_fault(PG_FUNCTION_ARGS)
 	PG_RETURN_INT32(place);
 }
 
+PG_FUNCTION_INFO_V1(uri_fault_text);
+Datum
+uri_fault_text(PG_FUNCTION_ARGS)
+{
+	struct bytes text = argument(fcinfo, 0);
+	size_t		place;
+	uint32_t	code = uriparse_first_fault(text.at, text.len, &place);
+
+	if (code == URIPARSE_OK)
+		PG_RETURN_NULL();
+	PG_RETURN_TEXT_P(cstring_to_text(uriparse_error_text(code)));
+}
+
 PG_FUNCTION_INFO_V1(uri_hash);
 Datum
 uri_hash(PG_FUNCTION_ARGS)

@@ -37,6 +37,9 @@ def part(component: str, text: bytes) -> Optional[bytes]:
 def compare(texts: List[bytes], base: bytes) -> None:
     assert uriparse.normalize_many(texts) == [one(uriparse.normalize, text) for text in texts]
     assert uriparse.resolve_many(base, iter(texts)) == [one(uriparse.resolve, base, text) for text in texts]
+    assert uriparse.relativize_many(base, texts) == [one(uriparse.relativize, base, text) for text in texts]
+    assert uriparse.is_within_many(texts, base) == [one(uriparse.is_within, text, base) for text in texts]
+    assert uriparse.host_is_within_many(texts, b"h") == [one(uriparse.host_is_within, text, b"h") for text in texts]
     for found, text in zip(uriparse.parse_many(texts), texts):
         wanted = one(uriparse.parse, text)
         assert (found and dataclasses.asdict(found)) == (wanted and dataclasses.asdict(wanted)), text
@@ -45,6 +48,9 @@ def compare(texts: List[bytes], base: bytes) -> None:
     strings = [text.decode("latin-1") for text in texts]
     assert uriparse.normalize_many(strings) == [one(uriparse.normalize, text) for text in strings]
     assert uriparse.resolve_many(base.decode(), strings) == [one(uriparse.resolve, base.decode(), text) for text in strings]
+    assert uriparse.relativize_many(base.decode(), strings) == [one(uriparse.relativize, base.decode(), text) for text in strings]
+    assert uriparse.is_within_many(strings, base.decode()) == [one(uriparse.is_within, text, base.decode()) for text in strings]
+    assert uriparse.host_is_within_many(strings, "h") == [one(uriparse.host_is_within, text, "h") for text in strings]
     assert uriparse.get_many("path", strings) == [part("path", text) for text in strings]
 
 
@@ -69,11 +75,24 @@ def test_errors() -> None:
     base = b"s:"
     for error in (raised(uriparse.normalize_many, texts, errors="raise"), raised(uriparse.parse_many, texts, errors="raise"),
                   raised(uriparse.resolve_many, base, texts, errors="raise"),
+                  raised(uriparse.host_is_within_many, texts, b"h", errors="raise"),
                   raised(uriparse.get_many, "host", texts, errors="raise")):
         assert isinstance(error, uriparse.URIError) and (error.code, error.place, error.text) == (0x51, 1, b"b c"), error
     for wrong, code in ((b"/a", 0x103), (b"s:%", 0x152)):
         error = raised(uriparse.resolve_many, wrong, [])
         assert isinstance(error, uriparse.URIError) and (error.code, error.text) == (code, wrong), error
+    for call in (uriparse.relativize_many, lambda base, uris: uriparse.is_within_many(uris, base)):
+        error = raised(call, b"s:%", [])
+        assert isinstance(error, uriparse.URIError) and (error.code, error.argument) == (0x152, "base"), error
+    for first in (["s:", "s:%"], ["s:", b"s:"]):
+        one_error, many_error = raised(uriparse.is_within, first[1], "s:"), raised(uriparse.is_within_many, first, "s:", errors="raise")
+        assert type(one_error) is type(many_error) and str(one_error) == str(many_error), many_error
+    error = raised(uriparse.relativize_many, "s:", ["s:", "a"], errors="raise")
+    assert isinstance(error, uriparse.URIError) and (error.code, error.argument) == (uriparse.Code.NO_SCHEME, "uri"), error
+    error = raised(uriparse.host_is_within_many, [], "a:1")
+    assert isinstance(error, uriparse.URIError) and (error.argument, error.place) == ("domain", 1), error
+    assert uriparse.is_within_many(["s://h/a/b", "s://h/b", "%"], "s://h/a/") == [True, False, None]
+    assert uriparse.host_is_within_many(["//a.h", "//ah", "//"], "h") == [True, False, False]
     assert str(raised(uriparse.get_many, "hosts", [])) == (
         "no component 'hosts': it is one of scheme, authority, username, password, host, port, path, query, fragment")
     for call in (uriparse.normalize_many, uriparse.parse_many):

@@ -94,6 +94,16 @@ static void fault(sqlite3_context *context, int count, sqlite3_value **values) {
     sqlite3_result_int64(context, (sqlite3_int64)place);
 }
 
+static void fault_text(sqlite3_context *context, int count, sqlite3_value **values) {
+  struct text text;
+  size_t place;
+  uint32_t code;
+  (void)count;
+  if (!read_text(context, values[0], &text)) return;
+  code = uriparse_first_fault(text.at, text.len, &place);
+  if (code != URIPARSE_OK) sqlite3_result_text(context, uriparse_error_text(code), -1, SQLITE_STATIC);
+}
+
 /* The value itself, if it is a reference; else an error. */
 static void check(sqlite3_context *context, int count, sqlite3_value **values) {
   struct text text;
@@ -762,6 +772,7 @@ static const struct {
   {"uri_is_ambiguous", 1, is_ambiguous, NULL}, {"uri_port_or_default", 1, port_or_default, NULL},
   {"uri_host_address", 1, host_address, NULL}, {"uri_param_values", 2, param_values, NULL},
   {"uri_form_decode", 1, form_decode, NULL}, {"uri_trim_link", 1, trim_link, NULL},
+  {"uri_fault_text", 1, fault_text, NULL},
 };
 
 __attribute__((visibility("default")))

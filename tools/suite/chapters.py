@@ -62,47 +62,69 @@ VARIANTS: List[Tuple[str, str, Callable[[str], str]]] = [
 ]
 
 
-def equality(chance: random.Random) -> Iterator[Question]:
+def _rejected(chance: random.Random, count: int) -> List[inputs.Input]:
+    return _some(chance, [one for one in inputs.each_choice() if not _is_valid(one.text)], count)
+
+
+def _varied(chance: random.Random) -> Iterator[Question]:
     singles = _valid([*inputs.each_choice(), *inputs.each_address()])
     for section, made, change in VARIANTS:
-        for one in _some(chance, [one for one in singles if change(one.text) != one.text or section == "6.2.1"], 170):
-            yield Question((one.text, change(one.text)), section, made)
+        changed = [one for one in singles if change(one.text) != one.text or section == "6.2.1"]
+        yield from (Question((one.text, change(one.text)), section, made) for one in _some(chance, changed, 170))
+
+
+def _two_of_one(chance: random.Random) -> Iterator[Question]:
     for name in inputs.CHOICES:
         same = _valid(one for one in inputs.each_choice() if one.made == name + ", URI")
-        for left, right in _some(chance, itertools.product(same, same), 200):
-            yield Question((left.text, right.text), left.section, "two of " + name)
+        pairs = _some(chance, itertools.product(same, same), 200)
+        yield from (Question((left.text, right.text), left.section, "two of " + name) for left, right in pairs)
+
+
+def _either_way(chance: random.Random, items: Iterable[inputs.Input], other: str, made: str) -> Iterator[Question]:
+    """Each string with another one, before or after it."""
+    for one in items:
+        yield Question((one.text, other) if chance.random() < 0.5 else (other, one.text), one.section, made)
+
+
+def equality(chance: random.Random) -> Iterator[Question]:
+    yield from _varied(chance)
+    yield from _two_of_one(chance)
     for left, right in itertools.product(inputs.CLOSE_HOSTS, repeat=2):
         yield Question(("s://%s/" % left, "s://%s/" % right), "3.2.2", "two close hosts")
-    for one in _some(chance, [one for one in inputs.each_choice() if not _is_valid(one.text)], 60):
-        yield Question((one.text, "s:a") if chance.random() < 0.5 else ("s:a", one.text), one.section, "one is rejected")
+    yield from _either_way(chance, _rejected(chance, 60), "s:a", "one is rejected")
+
+
+def _with_dots(chance: random.Random) -> Iterator[Question]:
+    shapes = [(front, path) for front in ("s://h/", "s:/", "s:", "", "/") for length in (1, 2, 3) for path in inputs.dotted(length)]
+    for front, path in shapes:
+        yield Question((front + path,), "6.2.2.3", "dot segments after %r" % front)
+    yield from (Question(("s://h/" + path,), "6.2.2.3", "dot segments, five") for path in _some(chance, inputs.dotted(5), 300))
 
 
 def normal(chance: random.Random) -> Iterator[Question]:
-    for one in [*_valid([*inputs.each_choice(), *inputs.each_address()]), *_some(chance, _valid(inputs.each_pair()), 1000)]:
-        yield Question((one.text,), "6.2.2", one.made)
-    for front, length in itertools.product(("s://h/", "s:/", "s:", "", "/"), (1, 2, 3)):
-        for path in inputs.dotted(length):
-            yield Question((front + path,), "6.2.2.3", "dot segments after %r" % front)
-    for path in _some(chance, inputs.dotted(5), 300):
-        yield Question(("s://h/" + path,), "6.2.2.3", "dot segments, five")
-    for one in _some(chance, [one for one in inputs.each_choice() if not _is_valid(one.text)], 60):
-        yield Question((one.text,), one.section, "rejected")
+    singles = _valid([*inputs.each_choice(), *inputs.each_address()])
+    yield from (Question((one.text,), "6.2.2", one.made) for one in [*singles, *_some(chance, _valid(inputs.each_pair()), 1000)])
+    yield from _with_dots(chance)
+    yield from (Question((one.text,), one.section, "rejected") for one in _rejected(chance, 60))
 
 
 # Section 5.4: references and their targets against EXAMPLE_BASE, as the RFC prints them.
 EXAMPLE_BASE = "http://a/b/c/d;p?q"
 NORMAL_EXAMPLES = {
-    "g:h": "g:h", "g": "http://a/b/c/g", "./g": "http://a/b/c/g", "g/": "http://a/b/c/g/", "/g": "http://a/g", "//g": "http://g", "?y": "http://a/b/c/d;p?y",
+    "g:h": "g:h", "g": "http://a/b/c/g", "./g": "http://a/b/c/g", "g/": "http://a/b/c/g/", "/g": "http://a/g", "//g": "http://g",
+    "?y": "http://a/b/c/d;p?y",
     "g?y": "http://a/b/c/g?y", "#s": "http://a/b/c/d;p?q#s", "g#s": "http://a/b/c/g#s", "g?y#s": "http://a/b/c/g?y#s", ";x": "http://a/b/c/;x",
-    "g;x": "http://a/b/c/g;x", "g;x?y#s": "http://a/b/c/g;x?y#s", "": "http://a/b/c/d;p?q", ".": "http://a/b/c/", "./": "http://a/b/c/", "..": "http://a/b/",
+    "g;x": "http://a/b/c/g;x", "g;x?y#s": "http://a/b/c/g;x?y#s", "": "http://a/b/c/d;p?q", ".": "http://a/b/c/", "./": "http://a/b/c/",
+    "..": "http://a/b/",
     "../": "http://a/b/", "../g": "http://a/b/g", "../..": "http://a/", "../../": "http://a/", "../../g": "http://a/g"}
 ABNORMAL_EXAMPLES = {
-    "../../../g": "http://a/g", "../../../../g": "http://a/g", "/./g": "http://a/g", "/../g": "http://a/g", "g.": "http://a/b/c/g.", ".g": "http://a/b/c/.g",
+    "../../../g": "http://a/g", "../../../../g": "http://a/g", "/./g": "http://a/g", "/../g": "http://a/g", "g.": "http://a/b/c/g.",
+    ".g": "http://a/b/c/.g",
     "g..": "http://a/b/c/g..", "..g": "http://a/b/c/..g", "./../g": "http://a/b/g", "./g/.": "http://a/b/c/g/", "g/./h": "http://a/b/c/g/h",
     "g/../h": "http://a/b/c/h", "g;x=1/./y": "http://a/b/c/g;x=1/y", "g;x=1/../y": "http://a/b/c/y", "g?y/./x": "http://a/b/c/g?y/./x",
     "g?y/../x": "http://a/b/c/g?y/../x", "g#s/./x": "http://a/b/c/g#s/./x", "g#s/../x": "http://a/b/c/g#s/../x", "http:g": "http:g"}
-BASES = ["http://a/b/c/d;p?q", "s://h", "s://u:p@h:8/", "s://h//", "s:", "s:a", "s:a/b/c", "s:/a/b", "s:/", "s:../a", "s://h/a/./../b/c", "s:/.//a/b", "HTTP://h/%7e/%2e%2e/b",
-         "s://h/a/..", "foo://[::0:1]:007?x#y"]
+BASES = ["http://a/b/c/d;p?q", "s://h", "s://u:p@h:8/", "s://h//", "s:", "s:a", "s:a/b/c", "s:/a/b", "s:/", "s:../a", "s://h/a/./../b/c",
+         "s:/.//a/b", "HTTP://h/%7e/%2e%2e/b", "s://h/a/..", "foo://[::0:1]:007?x#y"]
 PIECES = ["", "t:", "s:", "//g", "//u@g:", "//", "t://g", "//[::1]"]
 ENDS = ["", "?", "?y", "#", "#f", "?y#f", "?/../y", "#/./f"]
 
@@ -118,28 +140,28 @@ def _resolved(base: str, reference: str) -> Question:
     return Question((base, reference), section, ", ".join([row, *taken]))
 
 
-def resolution(chance: random.Random) -> Iterator[Question]:
+def _examples() -> Iterator[Question]:
     for section, examples in (("5.4.1", NORMAL_EXAMPLES), ("5.4.2", ABNORMAL_EXAMPLES)):
-        for reference in examples:
-            yield Question((EXAMPLE_BASE, reference), section, "example")
+        yield from (Question((EXAMPLE_BASE, reference), section, "example") for reference in examples)
+
+
+def resolution(chance: random.Random) -> Iterator[Question]:
+    yield from _examples()
     ends = ["".join(three) for three in itertools.product(PIECES, ["", "/", "/x", "x", "..", "/..//x", ".//x"], ENDS)]
     dots = [path for length in (1, 2, 3) for path in inputs.dotted(length)]
+    bases = [front + path for front, path in itertools.product(["s://h/", "s:/", "s:"], dots)]
     made = [*itertools.product(BASES, dots[:30]), *_some(chance, itertools.product(BASES, dots[30:]), 900), *_some(chance, itertools.product(BASES, ends), 1300),
-            *_some(chance, itertools.product(["s://h/", "s:/", "s:"], dots, ["g", "../g", "", "?y", "/.//g"]), 900)]
-    for three in made:
-        base, reference = (three[0] + three[1], three[2]) if len(three) == 3 else three
-        yield _resolved(base, reference)
-    singles = list(inputs.each_choice())
-    for one in [*_some(chance, _valid(singles), 400), *_some(chance, [one for one in singles if not _is_valid(one.text)], 120)]:
-        yield _resolved("s://h/a/b", one.text)
-        yield _resolved(one.text, "g")
+            *_some(chance, itertools.product(bases, ["g", "../g", "", "?y", "/.//g"]), 900)]
+    singles = [*_some(chance, _valid(inputs.each_choice()), 400), *_rejected(chance, 120)]
+    made += [two for one in singles for two in (("s://h/a/b", one.text), (one.text, "g"))]
+    yield from itertools.starmap(_resolved, made)
 
 
 def _trees(chance: random.Random, count: int) -> Iterator[Tuple[str, str]]:
     """Pairs of URIs that share more or less of the front."""
     fronts = ["s://h", "S://h", "s://H", "s://u@h", "s://h:8", "s:", "t:", "s://h:08", "s://%68", "s://[::1]"]
-    paths = ["", "/", "/a", "/a/", "/a/b", "/a/b/", "/a/b/c", "/a//b", "//a", "/b:c", "/a/b:c", "/%61/b", "/a/./b", "/a/../b", "/a/%2e%2e/b", "/a/..;/b", "/a/%2Fb",
-             "/A/b", "/a;x/b", "a", "a/b", "/a/b/../c", "/a/.../b", "/a/%2e/b", "/a/..;x/../b", "/a%00/b"]
+    paths = ["", "/", "/a", "/a/", "/a/b", "/a/b/", "/a/b/c", "/a//b", "//a", "/b:c", "/a/b:c", "/%61/b", "/a/./b", "/a/../b", "/a/%2e%2e/b",
+             "/a/..;/b", "/a/%2Fb", "/A/b", "/a;x/b", "a", "a/b", "/a/b/../c", "/a/.../b", "/a/%2e/b", "/a/..;x/../b", "/a%00/b"]
     ends = ["", "?q", "#f", "?q#f", "?"]
     likely = [(left, right) for left, right in itertools.product(fronts, fronts) for _ in range(12 if left == right else 1)]
     while count:
@@ -152,17 +174,13 @@ def _trees(chance: random.Random, count: int) -> Iterator[Tuple[str, str]]:
 
 
 def relative(chance: random.Random) -> Iterator[Question]:
-    for two in _trees(chance, 2300):
-        yield Question(two, "5.2", "two URIs")
-    for one in _some(chance, [one for one in inputs.each_choice()], 200):
-        yield Question((one.text, "s://h/a") if chance.random() < 0.5 else ("s://h/a", one.text), "4.1", "any string")
+    yield from (Question(two, "5.2", "two URIs") for two in _trees(chance, 2300))
+    yield from _either_way(chance, _some(chance, inputs.each_choice(), 200), "s://h/a", "any string")
 
 
 def within(chance: random.Random) -> Iterator[Question]:
-    for two in _trees(chance, 2300):
-        yield Question(two, "6.2.2", "two URIs")
-    for one in _some(chance, [one for one in inputs.each_choice()], 200):
-        yield Question((one.text, "s://h/a") if chance.random() < 0.5 else ("s://h/a", one.text), "4.1", "any string")
+    yield from (Question(two, "6.2.2", "two URIs") for two in _trees(chance, 2300))
+    yield from _either_way(chance, _some(chance, inputs.each_choice(), 200), "s://h/a", "any string")
 
 
 EDITED = ["s://u:p@h:8/a/b?q#f", "s:a", "s:/a", "s://h", "//h/a", "/a", "a/b", "", "?q", "s:", "s://h//a", "HTTP://H:080/%7e", "mailto:a@b"]
@@ -173,11 +191,9 @@ NAMED = {"username": inputs.USERS, "password": inputs.USERS, "scheme": inputs.SC
 
 def edits(chance: random.Random) -> Iterator[Question]:
     sections = {**inputs.SECTIONS, "username": "3.2.1", "password": "3.2.1"}
-    single = [(text, {name: value}) for text in EDITED for name, values in NAMED.items() for value in [None, *values]]
-    for text, changes in _some(chance, single, 2000):
-        yield Question((text,), sections[next(iter(changes))], "set " + next(iter(changes)), changes)
-    double = [(text, left, right) for text in EDITED for left, right in itertools.combinations(NAMED, 2)]
-    for text, left, right in double:
+    single = [(text, name, value) for text in EDITED for name, values in NAMED.items() for value in [None, *values]]
+    yield from (Question((text,), sections[name], "set " + name, {name: value}) for text, name, value in _some(chance, single, 2000))
+    for text, (left, right) in itertools.product(EDITED, itertools.combinations(NAMED, 2)):
         yield Question((text,), "5.3", "set %s and %s" % (left, right), {left: chance.choice(NAMED[left]), right: chance.choice(NAMED[right])})
 
 
@@ -185,10 +201,16 @@ CHAPTERS: Dict[str, Callable[[random.Random], Iterator[Question]]] = {
     "reading": reading, "equality": equality, "normal": normal, "resolution": resolution, "relative": relative, "edits": edits, "within": within}
 
 
+def _of_known_scheme(question: Question) -> Question:
+    """With `http` for the scheme `s`: many libraries know that one alone."""
+    return question._replace(input=tuple(re.sub("^[sS]:", lambda found: "http:" if found[0] == "s:" else "HTTP:", text) for text in question.input))
+
+
 def questions_of(chapter: str, seed: int) -> Iterator[Question]:
-    """The questions of a chapter, each once."""
+    """The questions of a chapter, each once, every second one with a scheme that libraries know."""
     seen: Set[str] = set()
-    for question in CHAPTERS[chapter](random.Random("%d %s" % (seed, chapter))):
+    for index, question in enumerate(CHAPTERS[chapter](random.Random("%d %s" % (seed, chapter)))):
+        question = _of_known_scheme(question) if index % 2 else question
         key = repr((question.input, question.changes))
         if key not in seen:
             seen.add(key)

@@ -3,7 +3,7 @@ from __future__ import annotations
 
 import os
 import sys
-from typing import Any, Dict, Optional
+from typing import Any, Callable, Dict, Optional
 
 from form import TOP, Vector
 
@@ -18,11 +18,12 @@ def _rejection(chapter: str, error: uriparse.URIError) -> Dict[str, Any]:
     where = {"uri": 0, "base": 1}.get(error.argument) if chapter == "within" else INPUTS.get(error.argument, 0)
     told: Dict[str, Any] = {"input": where, "component": error.component}
     if chapter == "reading":
-        told["byte"] = len(error.text[:error.place].encode())
+        told["byte"] = len(str(error.text)[:error.place].encode())
     return {"rejected": told}
 
 
-def _reading(text: str) -> Dict[str, Optional[str]]:
+def reading(text: str) -> Dict[str, Optional[str]]:
+    """The components of a reference as they are spelled."""
     parts = uriparse.parse(text)
     user = None if parts.username is None else parts.username + ("" if parts.password is None else ":" + parts.password)
     return {"scheme": parts.scheme, "userinfo": user, "host": parts.host, "port": parts.port, "path": parts.path, "query": parts.query,
@@ -32,14 +33,14 @@ def _reading(text: str) -> Dict[str, Optional[str]]:
 def _accepted(vector: Vector, chapter: str) -> Any:
     inputs = vector["input"]
     if chapter == "reading":
-        return _reading(*inputs)
+        return reading(*inputs)
     if chapter == "equality":
         return {"equal": uriparse.equal(*inputs), "order": uriparse.compare(*inputs)}
     if chapter == "within":
         return {"within": uriparse.is_within(*inputs)}
     if chapter == "edits":
         return uriparse.replace(*inputs, **vector["changes"])
-    calls = {"normal": uriparse.normalize, "resolution": uriparse.resolve, "relative": uriparse.relativize}
+    calls: Dict[str, Callable[..., str]] = {"normal": uriparse.normalize, "resolution": uriparse.resolve, "relative": uriparse.relativize}
     return calls[chapter](*inputs)
 
 

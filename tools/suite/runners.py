@@ -3,8 +3,9 @@ from __future__ import annotations
 
 import os
 import re
+import shutil
 import subprocess
-from typing import Dict, List, NamedTuple, Optional, Sequence
+from typing import List, NamedTuple, Optional, Sequence
 
 import form
 
@@ -30,8 +31,44 @@ PEERS = [
     Runner("uriparser", (*C, "{out}/uriparser", "{peers}/uriparser.c", "-luriparser"), ("{out}/uriparser",), ("pkg-config", "--modversion", "liburiparser")),
     Runner("libcurl", (*C, "{out}/curl", "{peers}/curl.c", "-lcurl"), ("{out}/curl",), ("pkg-config", "--modversion", "libcurl")),
 ]
-LIBRARY = os.path.join(form.TOP, "bindings/c")
-OURS = Runner("C", (*C, "{out}/ours", "{peers}/../ours.c", "-I" + LIBRARY, LIBRARY + "/out/liburiparse.a"), ("{out}/ours",), ())
+
+
+class Own(NamedTuple):
+    """This library from a language: its runner, the files and programs that it needs, and whether it spells answers as the program does."""
+
+    runner: Runner
+    needs: Sequence[str]
+    is_program: bool = False
+
+
+def _python_of_sqlite() -> str:
+    """A python3 whose sqlite3 loads extensions, if there is one."""
+    for python in ("python3", "/usr/bin/python3"):
+        asked = [python, "-c", "import sqlite3; sqlite3.Connection.load_extension"]
+        if shutil.which(python) and not subprocess.run(asked, stderr=subprocess.DEVNULL).returncode:
+            return python
+    return "python3 whose sqlite3 loads extensions"
+
+
+def _own(name: str, needs: Sequence[str], build: Sequence[str], *start: str) -> Own:
+    return Own(Runner(name, build, start, ()), needs)
+
+
+BINDINGS = os.path.join(form.TOP, "bindings")
+LIBRARY = BINDINGS + "/c/out/liburiparse.a"
+SQLITE = BINDINGS + "/sqlite/out/uri0.so"
+PROGRAM = os.path.abspath(os.environ.get("URI", os.path.join(form.TOP, "crates/uri/out/uri")))
+RUSTC = "rustc --edition 2021 -O -L native=%s/c/out " % BINDINGS
+CRATE = RUSTC + "--crate-type rlib --crate-name uriparse_rattle --cfg 'feature=\"alloc\"' -l static=uriparse --out-dir {out} %s/rust/src/lib.rs" % BINDINGS
+RUST = "%s && %s -L {out} --extern uriparse_rattle -o {out}/ours_rs %s/ours.rs" % (CRATE, RUSTC, HERE)
+OURS = [
+    _own("C", (LIBRARY, "cc"), (*C, "{out}/ours", HERE + "/ours.c", "-I" + BINDINGS + "/c", LIBRARY), "{out}/ours"),
+    _own("JavaScript", (BINDINGS + "/web/uriparse.wasm", "node"), (), "node", HERE + "/ours.mjs"),
+    _own("the program", (PROGRAM,), (), "python3", HERE + "/ours_program.py", PROGRAM)._replace(is_program=True),
+    _own("SQLite", (SQLITE, _python_of_sqlite()), (), _python_of_sqlite(), HERE + "/ours_sqlite.py", SQLITE),
+    _own("Rust", (LIBRARY, "rustc"), ("sh", "-c", RUST), "{out}/ours_rs"),
+    _own("PostgreSQL", ("psql", *([] if "PGHOST" in os.environ else ["server that PGHOST names"])), (), "python3", HERE + "/ours_postgres.py"),
+]
 
 
 def _filled(command: Sequence[str], out: str) -> List[str]:
@@ -52,6 +89,11 @@ def answers_of(runner: Runner, vectors: Sequence[form.Vector], out: str) -> Opti
     return answers
 
 
+def missing(own: Own) -> Optional[str]:
+    """What isn't here of what a runner of this library needs."""
+    return next((each for each in own.needs if not (os.path.exists(each) if os.path.isabs(each) else shutil.which(each))), None)
+
+
 def version_of(runner: Runner) -> str:
     found = subprocess.run(runner.version, check=True, capture_output=True, text=True).stdout
     match = re.search(r"[0-9]+(\.[0-9]+)+", found)
@@ -61,5 +103,7 @@ def version_of(runner: Runner) -> str:
 
 def by_name(name: str) -> Runner:
     """The peer whose name has this word."""
-    found: Dict[bool, Runner] = {name.lower() in one.name.lower(): one for one in PEERS}
-    return found[True]
+    found = [one for one in PEERS if name.lower() in one.name.lower()]
+    if len(found) != 1:
+        raise SystemExit("table: %d peers have %r in their names: %s" % (len(found), name, ", ".join(one.name for one in PEERS)))
+    return found[0]

@@ -1,25 +1,30 @@
 """The tags of a vector: the departures from the letter of the RFC without which its answer would be another one."""
 from __future__ import annotations
 
-from typing import AbstractSet, Any, List
+from typing import AbstractSet, Any, List, Optional
 
 import letter
 import model
 from chapters import ABNORMAL_EXAMPLES, EXAMPLE_BASE, NORMAL_EXAMPLES
-from form import Vector
+from form import COMPONENTS, Vector
 
 REJECTED = object()
+DEFAULT_PORT = "default-port"
 
 
-def _reading(text: bytes, follow: AbstractSet[str]) -> Any:
-    return REJECTED if letter.read(text, follow) is None else letter.read(text, follow)
+def _read(text: bytes, follow: AbstractSet[str]) -> Optional[letter.Reference]:
+    """The components; with the rule of default ports, which section 6.2.3 has for schemes, without such a port."""
+    one = letter.read(text, follow)
+    if DEFAULT_PORT not in follow or one is None or not one.port or one.scheme is None:
+        return one
+    return one._replace(port=None) if int(one.port) == model.DEFAULT_PORTS.get(one.scheme.lower()) else one
 
 
 def model_answer(vector: Vector, follow: AbstractSet[str]) -> Any:
     """What the slow program answers, or None if it has no answer: relative references and edits are this library's own."""
     chapter = vector["id"].partition("-")[0]
     texts = [text.encode() for text in vector["input"]]
-    read = [letter.read(text, follow) for text in texts]
+    read = [_read(text, follow) for text in texts]
     if chapter in ("relative", "edits"):
         return None
     needs_scheme = {"resolution": read[:1], "within": read}.get(chapter, [])
@@ -44,8 +49,8 @@ def _comparable(answer: Any) -> Any:
         return REJECTED
     if "equal" in answer or "within" in answer:
         return answer.get("equal", answer.get("within"))
-    return letter.Reference(*(None if answer[name] is None else answer[name].encode()
-                              for name in ("scheme", "userinfo", "host", "port", "path", "query", "fragment")))
+    scheme, user, host, port, path, query, fragment = (None if answer[name] is None else answer[name].encode() for name in COMPONENTS)
+    return letter.Reference(scheme, user, host, port, path or b"", query, fragment)
 
 
 def check(vector: Vector) -> None:
@@ -60,12 +65,13 @@ def check(vector: Vector) -> None:
 
 
 def tags_of(vector: Vector) -> List[str]:
-    """The departures that the answer depends on; `own` if the RFC asks no such question."""
+    """The departures that the answer depends on; `own` if the RFC asks no such question; whether a rule of the scheme would change the answer."""
     answer = model_answer(vector, letter.DEPARTURES)
     chapter = vector["id"].partition("-")[0]
     if answer is None or chapter == "within":
         return ["own"] if "rejected" not in vector["answer"] or chapter in ("edits", "within", "relative") else []
     needed = sorted(one for one in letter.DEPARTURES if model_answer(vector, letter.DEPARTURES - {one}) != answer)
-    # Two departures may have one effect: then each alone changes nothing.
-    return needed or sorted(one for one in letter.DEPARTURES
-                            if model_answer(vector, frozenset({one})) != model_answer(vector, frozenset()))
+    by_scheme = chapter != "reading" and model_answer(vector, letter.DEPARTURES | {DEFAULT_PORT}) != answer
+    # If two departures have one effect, taking one away changes nothing.
+    needed = needed or sorted(one for one in letter.DEPARTURES if model_answer(vector, frozenset({one})) != model_answer(vector, frozenset()))
+    return needed + [DEFAULT_PORT] * by_scheme

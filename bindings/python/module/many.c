@@ -201,23 +201,61 @@ static PyObject *normalize_many(PyObject *module, PyObject *const *args, Py_ssiz
   return batch ? write_all(batch, uriparse_normalize, NULL, NULL) : NULL;
 }
 
-/* The base was accepted by `resolve`. */
-static PyObject *resolve_many(PyObject *module, PyObject *const *args, Py_ssize_t count, PyObject *kwnames) {
-  static const char *const names[] = {"base", "references", "is_raising"};
+/* What a call says of each text and another one. */
+static PyObject *test_all(struct batch *batch, test_two_call *call, const struct text *other) {
+  bool answers[TEXTS];
+  bool done = true;
+  while (done && (done = batch_fill(batch)) && batch->count) {
+    Py_BEGIN_ALLOW_THREADS
+    for (size_t at = 0; at < batch->count; at++) {
+      const struct text *text = &batch->texts[at];
+      batch->codes[at] = call(text->bytes, text->len, other->bytes, other->len, &answers[at]);
+    }
+    Py_END_ALLOW_THREADS
+    for (size_t at = 0; done && at < batch->count; at++) {
+      done = batch_answer(batch, at, batch->codes[at] ? NULL : PyBool_FromLong(answers[at]));
+    }
+  }
+  return batch_end(batch, done);
+}
+
+/* A call of many texts and another one, which the call of one text has accepted. */
+struct many_and_one {
+  const char *name;
+  const char *arguments[3]; /* the other, the texts, and whether errors are raised */
+  const char *argument;     /* what a text is called in its error */
+  int taken;                /* as what the other is taken */
+  write_two_call *write;    /* of the other and a text, or NULL */
+  test_two_call *test;      /* of a text and the other */
+};
+
+static PyObject *many_and_one(PyObject *module, const struct many_and_one *row, PyObject *const *args, Py_ssize_t count, PyObject *kwnames) {
   const struct state *state = state_of(module);
   PyObject *sources[3];
   PyObject *found = NULL;
-  struct text base;
-  if (!take_arguments("resolve_many", names, 3, args, count, kwnames, sources) || !text_take(state, &base, sources[0], OR_URI)) return NULL;
-  struct batch *batch = hold_still(&base) ? batch_of(state, sources[1], sources[2], "reference") : NULL;
+  struct text other;
+  if (!take_arguments(row->name, row->arguments, 3, args, count, kwnames, sources) || !text_take(state, &other, sources[0], row->taken))
+    return NULL;
+  struct batch *batch = hold_still(&other) ? batch_of(state, sources[1], sources[2], row->argument) : NULL;
   if (batch) {
     batch->has_kind = true;
-    batch->is_str = base.is_str;
-    found = write_all(batch, NULL, uriparse_resolve, &base);
+    batch->is_str = other.is_str;
+    found = row->write ? write_all(batch, NULL, row->write, &other) : test_all(batch, row->test, &other);
   }
-  text_release(&base);
+  text_release(&other);
   return found;
 }
+
+/* The method of a row, with the name of its C function and what the row says. */
+#define MANY(name, ...)                                                                                                                    \
+  static const struct many_and_one name##_row = {__VA_ARGS__};                                                                             \
+  static PyObject *name(PyObject *module, PyObject *const *args, Py_ssize_t count, PyObject *kwnames) {                                    \
+    return many_and_one(module, &name##_row, args, count, kwnames);                                                                        \
+  }
+MANY(resolve_many, "resolve_many", {"base", "references", "is_raising"}, "reference", OR_URI, uriparse_resolve, NULL)
+MANY(relativize_many, "relativize_many", {"base", "uris", "is_raising"}, "uri", OR_URI, uriparse_relativize, NULL)
+MANY(is_within_many, "is_within_many", {"base", "uris", "is_raising"}, "uri", OR_URI, NULL, uriparse_is_within)
+MANY(host_is_within_many, "host_is_within_many", {"domain", "texts", "is_raising"}, "text", PLAIN, NULL, uriparse_host_is_within)
 
 /* The object that is made of a text and its components. */
 typedef PyObject *maker(const struct batch *batch, const struct text *text, const struct uriparse_parts *parts, size_t which);
@@ -276,4 +314,6 @@ static PyObject *get_many(PyObject *module, PyObject *const *args, Py_ssize_t co
 }
 
 PyMethodDef many_methods[] = {METHOD("normalize_many", normalize_many, NULL), METHOD("resolve_many", resolve_many, NULL),
-                              METHOD("parse_many", parse_many, NULL), METHOD("get_many", get_many, NULL), {NULL, NULL, 0, NULL}};
+                              METHOD("relativize_many", relativize_many, NULL), METHOD("is_within_many", is_within_many, NULL),
+                              METHOD("host_is_within_many", host_is_within_many, NULL), METHOD("parse_many", parse_many, NULL),
+                              METHOD("get_many", get_many, NULL), {NULL, NULL, 0, NULL}};

@@ -34,8 +34,9 @@ from ._uriparse import (compare, decode, default_port, equal, form_decode, hash_
 
 __all__ = [
     "COMPONENTS", "ENCODED", "IN_BASE", "NO_ROOM", "URI", "Buffer", "Code", "Component", "Components", "Encodable",
-    "HostFlag", "HostKind", "Parts", "Span", "Text", "URIError", "encode", "error_text", "get_many", "normalize_many",
-    "parse_many", "replace", "resolve_many", "without_pair", "without_pairs"]
+    "HostFlag", "HostKind", "Parts", "Span", "Text", "URIError", "encode", "error_text", "get_many",
+    "host_is_within_many", "is_within_many", "normalize_many", "parse_many", "relativize_many", "replace",
+    "resolve_many", "without_pair", "without_pairs"]
 # methods.tsv: names
 __all__ += ["compare", "decode", "default_port", "equal", "escape", "first_fault", "form_decode", "hash_of",
             "host_address", "host_flags", "host_is_within", "is_ambiguous", "is_normalized", "is_uri", "is_within",
@@ -425,6 +426,55 @@ def resolve_many(base: Union[Text, URI], references: Iterable[Union[Text, URI]],
     else:
         resolve(base, b"")
     return _uriparse.resolve_many(base, references, _is_raising(errors))
+
+
+@overload
+def relativize_many(base: Buffer, uris: Iterable[Buffer], errors: Literal["none"] = "none") -> List[Optional[bytes]]: ...
+@overload
+def relativize_many(base: Buffer, uris: Iterable[Buffer], errors: Literal["raise"]) -> List[bytes]: ...
+@overload
+def relativize_many(base: Union[str, URI], uris: Iterable[Union[str, URI]],
+                    errors: Literal["none"] = "none") -> List[Optional[str]]: ...
+@overload
+def relativize_many(base: Union[str, URI], uris: Iterable[Union[str, URI]], errors: Literal["raise"]) -> List[str]: ...
+def relativize_many(base: Union[Text, URI], uris: Iterable[Union[Text, URI]], errors: str = "none") -> List[Any]:
+    """The reference that leads from a base to each URI, or None for one that is rejected; with errors="raise" the first of these
+    raises its URIError. A rejected base always raises its own."""
+    if isinstance(base, (str, URI)):
+        relativize(base, "s:")
+    else:
+        relativize(base, b"s:")
+    return _uriparse.relativize_many(base, uris, _is_raising(errors))
+
+
+@overload
+def is_within_many(uris: Iterable[Union[Text, URI]], base: Union[Text, URI],
+                   errors: Literal["none"] = "none") -> List[Optional[bool]]: ...
+@overload
+def is_within_many(uris: Iterable[Union[Text, URI]], base: Union[Text, URI], errors: Literal["raise"]) -> List[bool]: ...
+def is_within_many(uris: Iterable[Union[Text, URI]], base: Union[Text, URI], errors: str = "none") -> List[Any]:
+    """Whether each URI is below a base, as `is_within` says, or None for one that is rejected; with errors="raise" the first of these
+    raises its URIError. A rejected base always raises its own."""
+    if isinstance(base, (str, URI)):
+        is_within("s:", base)
+    else:
+        is_within(b"s:", base)
+    return _uriparse.is_within_many(base, uris, _is_raising(errors))
+
+
+@overload
+def host_is_within_many(texts: Iterable[Union[Text, URI]], domain: Text,
+                        errors: Literal["none"] = "none") -> List[Optional[bool]]: ...
+@overload
+def host_is_within_many(texts: Iterable[Union[Text, URI]], domain: Text, errors: Literal["raise"]) -> List[bool]: ...
+def host_is_within_many(texts: Iterable[Union[Text, URI]], domain: Text, errors: str = "none") -> List[Any]:
+    """Whether the host of each reference is a domain or a name within it, as `host_is_within` says, or None for one that is rejected;
+    with errors="raise" the first of these raises its URIError. A rejected domain always raises its own."""
+    if isinstance(domain, str):
+        host_is_within("", domain)
+    else:
+        host_is_within(b"", domain)
+    return _uriparse.host_is_within_many(domain, texts, _is_raising(errors))
 
 
 @overload
