@@ -15,7 +15,7 @@ sys.path.insert(0, os.path.join(TOP, "tests"))
 import model  # noqa: E402
 
 # The tags. docs/SUITE.md says what each is.
-DEPARTURES = frozenset({"escaped-dots", "two-slashes", "slash", "port", "ipv6", "scheme-case", "kind"})
+DEPARTURES = frozenset({"dots", "escaped-dots", "two-slashes", "slash", "port", "ipv6", "scheme-case", "kind"})
 Set = AbstractSet[str]
 
 
@@ -102,9 +102,11 @@ def _plain_dots(path: bytes, follow: Set) -> bytes:
 
 
 def equal(left: Reference, right: Reference, follow: Set) -> bool:
-    """Whether the canonical spellings are equal, without regard to dot segments."""
+    """Whether the canonical spellings are equal: section 6.2.2. A relative path keeps its dot segments, which lead somewhere."""
     kinds = [one.host is not None and model.host_key(one.host)[0] for one in (left, right)]
     one, other = (canonical(spelled(one, follow)) for one in (left, right))
+    if "dots" not in follow:
+        one, other = (each if each.scheme is None else each._replace(path=model.without_dots(each.path)) for each in (one, other))
     return one == other and ("kind" not in follow or kinds[0] == kinds[1])
 
 

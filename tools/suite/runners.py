@@ -11,6 +11,14 @@ import form
 
 HERE = os.path.dirname(os.path.abspath(__file__))
 C = ["cc", "-std=c11", "-O1", "-Wall", "-Wextra", "-o"]
+GLIB = " ".join(C) + " {out}/guri {peers}/guri.c $(pkg-config --cflags --libs glib-2.0)"
+DEBIAN = ("/usr/bin/python3", "-I")
+CPP = ["c++", "-std=c++11", "-O1", "-Wall", "-Wextra", "-o"]
+GHC = ["ghc", "-O1", "-Wall", "-outputdir", "{out}", "-o"]
+OXIRI = (
+    "rustc --edition 2018 -O --cap-lints allow --crate-type rlib --crate-name oxiri --out-dir {out} /usr/share/cargo/registry/oxiri-*/src/lib.rs"
+    " && rustc --edition 2021 -O -L {out} --extern oxiri -o {out}/oxiri {peers}/oxiri.rs"
+)
 
 
 class Runner(NamedTuple):
@@ -22,6 +30,10 @@ class Runner(NamedTuple):
     version: Sequence[str]
 
 
+def _of_package(name: str) -> Sequence[str]:
+    return "dpkg-query", "--show", "--showformat=${Version}", name
+
+
 PEERS = [
     Runner("Python's `urllib.parse`", (), ("python3", "-I", "{peers}/urllib.py"), ("python3", "--version")),
     Runner("Node's `URL`", (), ("node", "{peers}/url.mjs"), ("node", "--version")),
@@ -30,6 +42,14 @@ PEERS = [
     Runner("Java's `java.net.URI`", ("javac", "-d", "{out}", "{peers}/Uri.java"), ("java", "-cp", "{out}", "Uri"), ("javac", "-version")),
     Runner("uriparser", (*C, "{out}/uriparser", "{peers}/uriparser.c", "-luriparser"), ("{out}/uriparser",), ("pkg-config", "--modversion", "liburiparser")),
     Runner("libcurl", (*C, "{out}/curl", "{peers}/curl.c", "-lcurl"), ("{out}/curl",), ("pkg-config", "--modversion", "libcurl")),
+    Runner("Ruby's `URI`", (), ("ruby", "{peers}/uri.rb"), ("ruby", "-ruri", "-e", "puts URI::VERSION")),
+    Runner("Ruby's `Addressable`", (), ("ruby", "{peers}/uri.rb", "addressable"),
+           ("ruby", "-raddressable/uri", "-e", "puts Addressable::VERSION::STRING")),
+    Runner("Python's `rfc3986`", (), (*DEBIAN, "{peers}/rfc3986.py"), (*DEBIAN, "-c", "import rfc3986; print(rfc3986.__version__)")),
+    Runner("GLib's `GUri`", ("sh", "-c", GLIB), ("{out}/guri",), ("pkg-config", "--modversion", "glib-2.0")),
+    Runner("Boost.URL", (*CPP, "{out}/boost_url", "{peers}/boost_url.cpp", "-lboost_url"), ("{out}/boost_url",), _of_package("libboost-url1.81-dev")),
+    Runner("Rust's `oxiri`", ("sh", "-c", OXIRI), ("{out}/oxiri",), _of_package("librust-oxiri-dev")),
+    Runner("Haskell's `network-uri`", (*GHC, "{out}/uri_hs", "{peers}/NetworkUri.hs"), ("{out}/uri_hs",), _of_package("libghc-network-uri-dev")),
 ]
 
 

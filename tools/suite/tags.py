@@ -9,7 +9,9 @@ from chapters import ABNORMAL_EXAMPLES, EXAMPLE_BASE, NORMAL_EXAMPLES
 from form import COMPONENTS, Vector
 
 REJECTED = object()
+# What the RFC allows and the library doesn't do: to drop a default port, and to normalize the base before a reference is resolved.
 DEFAULT_PORT = "default-port"
+BASE = "base"
 
 
 def _read(text: bytes, follow: AbstractSet[str]) -> Optional[letter.Reference]:
@@ -37,7 +39,8 @@ def model_answer(vector: Vector, follow: AbstractSet[str]) -> Any:
     if chapter == "within":
         return model.is_below(*map(model.parts_of, texts))
     if chapter == "resolution":
-        return letter.target(read[0], read[1], follow)  # type: ignore[arg-type]
+        base = _read(letter.normal(read[0], follow), follow) if BASE in follow else read[0]  # type: ignore[arg-type]
+        return letter.target(base, read[1], follow)  # type: ignore[arg-type]
     return None if read[0] is None or read[0].scheme is None else letter.normal(read[0], follow)
 
 
@@ -65,13 +68,13 @@ def check(vector: Vector) -> None:
 
 
 def tags_of(vector: Vector) -> List[str]:
-    """The departures that the answer depends on; `own` if the RFC asks no such question; whether a rule of the scheme would change the answer."""
+    """The departures that the answer depends on, and what the RFC allows that would change it; `own` if the RFC asks no such question."""
     answer = model_answer(vector, letter.DEPARTURES)
     chapter = vector["id"].partition("-")[0]
     if answer is None or chapter == "within":
         return ["own"] if "rejected" not in vector["answer"] or chapter in ("edits", "within", "relative") else []
     needed = sorted(one for one in letter.DEPARTURES if model_answer(vector, letter.DEPARTURES - {one}) != answer)
-    by_scheme = chapter != "reading" and model_answer(vector, letter.DEPARTURES | {DEFAULT_PORT}) != answer
+    allowed = [one for one in (BASE, DEFAULT_PORT) if chapter != "reading" and model_answer(vector, letter.DEPARTURES | {one}) != answer]
     # If two departures have one effect, taking one away changes nothing.
     needed = needed or sorted(one for one in letter.DEPARTURES if model_answer(vector, frozenset({one})) != model_answer(vector, frozenset()))
-    return needed + [DEFAULT_PORT] * by_scheme
+    return needed + allowed
