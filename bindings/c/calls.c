@@ -95,6 +95,12 @@ uint32_t uriparse_hash(uriparse_bytes text, size_t len, uint64_t *hash) {
   return proved_hash(text_of(text, len), len, hash);
 }
 
+uint32_t proved_key(uint32_t flags, const uint8_t *text, size_t len, uint8_t *out, size_t room, size_t *needed);
+uint32_t uriparse_key(uint32_t flags, uriparse_bytes text, size_t len, uriparse_buffer out, size_t room,
+                      size_t *needed) {
+  return proved_key(flags, text_of(text, len), len, room_of(out, room), room, needed);
+}
+
 uint32_t proved_normalize(const uint8_t *text, size_t len, uint8_t *out, size_t room, size_t *needed);
 uint32_t uriparse_normalize(uriparse_bytes text, size_t len, uriparse_buffer out, size_t room, size_t *needed) {
   return proved_normalize(text_of(text, len), len, room_of(out, room), room, needed);
@@ -238,6 +244,7 @@ const char *uriparse_error_text(uint32_t code) {
   case URIPARSE_SCHEME_EMPTY: return "scheme is empty";
   case URIPARSE_SCHEME_BYTE: return "invalid scheme character";
   case URIPARSE_SCHEME_LETTER: return "scheme starts with non-alphabetic character";
+  case URIPARSE_KEY_FLAGS: return "no key has these flags";
   /* codes.tsv: end */
   default: return "unknown code";
   }
@@ -253,6 +260,7 @@ uint32_t uriparse_error_component(uint32_t code) {
   case URIPARSE_MISSING_HOST: return URIPARSE_HOST;
   case URIPARSE_BAD_NAMES: return URIPARSE_QUERY;
   case URIPARSE_NO_PAIRS: return URIPARSE_QUERY;
+  case URIPARSE_KEY_FLAGS: return 0;
   /* codes.tsv: end */
   default: return code & URIPARSE_COMPONENT_MASK;
   }

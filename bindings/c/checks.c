@@ -52,6 +52,38 @@ static void port_or_default(const char *text, uint32_t expected, int32_t port) {
   check(uriparse_port_or_default(text, strlen(text), &found) == expected && found == (expected == URIPARSE_OK ? port : 99), "port_or_default", text);
 }
 
+static uint32_t key(const char *text, size_t len, uint8_t *out, size_t room, size_t *needed) {
+  return uriparse_key(0, text, len, out, room, needed);
+}
+
+/* The order of two keys of these flags, as bytes. */
+static int order_of_keys(uint32_t flags, const char *left, const char *right) {
+  uint8_t one[128], other[128];
+  size_t len, other_len;
+  check(uriparse_key(flags, left, strlen(left), one, sizeof one, &len) == URIPARSE_OK, "key", left);
+  check(uriparse_key(flags, right, strlen(right), other, sizeof other, &other_len) == URIPARSE_OK, "key", right);
+  const int order = memcmp(one, other, len < other_len ? len : other_len);
+  return order != 0 ? order : (len > other_len) - (len < other_len);
+}
+
+/* Keys are ordered as `uriparse_compare` orders the references, and those of normal forms are too. */
+static void keys_are_ordered(void) {
+  static const char *const texts[] = {"", "a", "a?", "a#", "a?#", "a.b", "a/b", "a%2Fb", "A", "%41", "%7e", "s:", "S:a", "s-t:", "//", "//h", "//H/",
+                                      "//h:1", "//h:80", "//h:080", "//h:", "//u@h", "//u:@h", "//h.a", "//9.0.0.0", "//10.0.0.0", "//[::1]",
+                                      "//[::2:0]", "//[v1.a]", "//[V1.A:]", "//%31.2.3.4", "//1.2.3.4", "s://h/a/../b", "s://h/b", "s:a?b#c"};
+  for (size_t i = 0; i < sizeof texts / sizeof *texts; i++) {
+    for (size_t j = 0; j < sizeof texts / sizeof *texts; j++) {
+      int32_t order;
+      check(uriparse_compare(texts[i], strlen(texts[i]), texts[j], strlen(texts[j]), &order) == URIPARSE_OK, "compare", texts[i]);
+      const int keys = order_of_keys(0, texts[i], texts[j]);
+      check((keys > 0) - (keys < 0) == order, "keys are ordered", texts[i]);
+    }
+  }
+  check(order_of_keys(URIPARSE_KEY_NORMAL, "s://h/a/../b", "s://h/b") == 0, "key", "normal form");
+  check(order_of_keys(URIPARSE_KEY_NORMAL, "//%31.2.3.4", "//1.2.3.4") < 0, "key", "the kind of the host");
+  check(order_of_keys(URIPARSE_KEY_PAGE, "HTTP://h:80/.#a", "http://h/#b") == 0, "key", "page");
+}
+
 static uint32_t host_address(const char *text, size_t len, uint8_t *out, size_t room, size_t *needed) {
   return uriparse_host_address(text, len, out, room, needed);
 }
@@ -345,6 +377,11 @@ int main(void) {
 
   writes(form_decode, "form_decode", "a+%2B%00", 8, "a +", 4);
   check(form_decode("a+%4", 4, out, sizeof out, &needed) == URIPARSE_QUERY_ESCAPE && needed == 0, "form_decode rejects", "a+%4");
+  writes(key, "key", "//h?%61", 7, "1\1\2\1\1" "1h\1\1/\1\2a\1\1", 15);
+  check(key("//h:x", 5, out, sizeof out, &needed) == URIPARSE_PORT_BYTE && needed == 0, "key rejects", "//h:x");
+  check(uriparse_key(8, "a b", 3, out, sizeof out, &needed) == URIPARSE_KEY_FLAGS && needed == 0, "key rejects", "flags");
+  check(uriparse_error_component(URIPARSE_KEY_FLAGS) == 0, "error_component", "KEY_FLAGS");
+  keys_are_ordered();
   writes(trim_link, "trim_link", " <URL: http://h/\t>\n", 19, "http://h/", 9);
   writes(trim_link, "trim_link", "\377[ ", 3, "\377[", 2);
   writes(trim_link, "trim_link", "\0 ", 2, "", 1);
@@ -355,6 +392,7 @@ int main(void) {
   check(uriparse_port_or_default(NULL, 0, &order) == URIPARSE_OK && order == -1, "port_or_default", "NULL");
   check(uriparse_host_address(NULL, 0, NULL, 0, &needed) == URIPARSE_NO_ADDRESS && needed == 0, "host_address", "NULL");
   check(uriparse_form_decode(NULL, 0, NULL, 0, &needed) == URIPARSE_OK && needed == 0, "form_decode", "NULL");
+  check(uriparse_key(0, NULL, 0, NULL, 0, &needed) == URIPARSE_NO_ROOM && needed == 6, "key", "NULL");
   check(uriparse_trim_link(NULL, 0, NULL, 0, &needed) == URIPARSE_OK && needed == 0, "trim_link", "NULL");
   within = true;
   check(uriparse_compare(NULL, 0, NULL, 0, &order) == URIPARSE_OK && order == 0, "compare", "NULL");

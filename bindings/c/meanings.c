@@ -220,6 +220,9 @@ static void writes(const char *call, struct field text, struct field other) {
   uint32_t code;
   if (strcmp(call, "trim_link") == 0) {
     uriparse_trim_link(text.at, text.len, out, ROOM, &len);
+  } else if (strcmp(call, "key") == 0 || strcmp(call, "page_key") == 0) {
+    code = uriparse_key(strcmp(call, "key") == 0 ? 0 : URIPARSE_KEY_PAGE, text.at, text.len, out, ROOM, &len);
+    if (code != URIPARSE_OK) rejects_text(code, 1, text);
   } else if (strcmp(call, "encode") == 0) {
     static const char *const names[] = {"", "username", "password", "", "", "segment", "query", "fragment", "", "pair"};
     uint32_t component = 0;
@@ -300,7 +303,7 @@ static void answer(const struct meaning *row) {
   static const char *const of_pairs[] = {"pairs", "pair", "pair_values", "with_pair", "with_appended_pair", "without_pairs", "without_pair", NULL};
   static const char *const with_part[] = {"origin", "host_address", NULL};
   static const char *const decoding[] = {"decode", "form_decode", NULL};
-  static const char *const writing[] = {"resolve", "relativize", "encode", "trim_link", NULL};
+  static const char *const writing[] = {"resolve", "relativize", "encode", "trim_link", "key", "page_key", NULL};
   static const char *const with_number[] = {"host_flags", "port_or_default", "is_normalized", "hash", NULL};
   static const char *const comparing[] = {"compare", "equal", "same_origin", "is_within", "host_is_within", NULL};
   const struct field text = row->values[0], other = row->values[1];

@@ -93,6 +93,8 @@ static const call_of_row calls[] = {
     {"same_origin", [](auto left, auto right, auto) { return shown(uriparse::same_origin(left, right)); }},
     {"hash", [](auto text, auto, auto) { return std::to_string(uriparse::hash(text)); }},
     {"trim_link", [](auto text, auto, auto) { return uriparse::trim_link(text); }},
+    {"key", [](auto text, auto, auto) { return uriparse::key(text); }},
+    {"page_key", [](auto text, auto, auto) { return uriparse::key(text, URIPARSE_KEY_PAGE); }},
     {"form_decode", [](auto text, auto, auto) { return uriparse::form_decode(text); }},
     {"pair_values", [](auto text, auto name, auto) { return listed_values(text, name); }},
     {"origin", [](auto text, auto, auto) { return shown(uriparse::origin(text)); }},
@@ -184,6 +186,7 @@ static void check_random(std::string_view base, std::string_view text) {
       {"same_origin", [&] { return shown(uriparse::same_origin(base, text)); }}, {"is_normalized", [&] { return shown(uriparse::is_normalized(text)); }},
       {"is_ambiguous", [&] { return shown(uriparse::is_ambiguous(text)); }}, {"port_or_default", [&] { return shown(uriparse::port_or_default(text)); }},
       {"host_address", [&] { return uriparse::host_address(text).value_or("code " + std::to_string(URIPARSE_NO_ADDRESS)); }},
+      {"key", [&] { return uriparse::key(text, URIPARSE_KEY_PAGE); }},
       {"form_decode", [&] { return uriparse::form_decode(text); }}, {"trim_link", [&] { return uriparse::trim_link(text); }},
       {"origin", [&] { return uriparse::origin(text).value_or("code " + std::to_string(URIPARSE_NO_ORIGIN)); }},
       {"change", [&] { return uriparse::replace(text, changes); }}};

@@ -221,6 +221,13 @@ uint32_t proved_encode(uint32_t component, const uint8_t *bytes, size_t len, uin
   return written(code, at, needed_at, out, needed);
 }
 
+uint32_t proved_key(uint32_t flags, const uint8_t *text, size_t len, uint8_t *out, size_t room, size_t *needed) {
+  if (!enter(len, room, 0, 0)) return without_memory(needed);
+  uint64_t text_at = put(text, len), at = place(room), needed_at = place(8);
+  uint32_t code = Z_uriparseZ_uriparse_key(&module, flags, text_at, len, at, room, needed_at);
+  return written(code, at, needed_at, out, needed);
+}
+
 #define WRITES_OF_TWO(name)                                                                                                     \
   uint32_t proved_##name(const uint8_t *one, size_t one_len, const uint8_t *two, size_t two_len, uint8_t *out, size_t room,    \
                            size_t *needed) {                                                                                    \

@@ -81,6 +81,7 @@ enum uriparse_code {
   URIPARSE_SCHEME_EMPTY = 0x80,     /* A scheme that is set is empty. */
   URIPARSE_SCHEME_BYTE = 0x81,      /* A byte that no scheme has. */
   URIPARSE_SCHEME_LETTER = 0x82,    /* The first byte of a scheme that is set is no letter. */
+  URIPARSE_KEY_FLAGS = 0x90,        /* `uriparse_key` was called with flags that have no meaning. */
   /* codes.tsv: end */
 
   URIPARSE_COMPONENT_MASK = 0xf0, /* the digit of a code that names the component */
@@ -108,6 +109,14 @@ enum uriparse_host_flag {
   URIPARSE_HIDES_ADDRESS = 1,  /* a name whose canonical spelling is that of an IPv4 address: "%31.2.3.4" */
   URIPARSE_MAY_BE_NUMERIC = 2, /* a name whose last label begins with a digit: "2130706433", "0x7f.1", "127.1" */
   URIPARSE_HAS_ESCAPES = 4     /* a name whose canonical spelling has an escape: "evil.org%2F.example.com" */
+};
+
+/* What a sort key is of; 0 is the reference as it is. */
+enum uriparse_key_flag {
+  URIPARSE_KEY_NORMAL = 1,          /* the normal form, whose dot segments are removed; the kind of the host stays */
+  URIPARSE_KEY_NO_DEFAULT_PORT = 2, /* without a port that is the scheme's default port */
+  URIPARSE_KEY_NO_FRAGMENT = 4,     /* without the fragment */
+  URIPARSE_KEY_PAGE = 7             /* all three: the page that the reference leads to */
 };
 
 /* The components of a reference as its text spells them: without their delimiters (':', "//", '@', '?', '#'), not
@@ -312,6 +321,16 @@ uint32_t uriparse_default_port(uriparse_bytes scheme, size_t len);
 /* Writes to `*hash` a hash of a reference: equal references have equal hashes, on every machine, in every run and in later
  * versions. It is SipHash-1-3 with both keys 0; the key isn't secret, so it doesn't protect a hash table from texts chosen to collide. */
 uint32_t uriparse_hash(uriparse_bytes text, size_t len, uint64_t *hash);
+
+/* Writes to `out` the sort key of a reference, as `uriparse_normalize` writes a text: bytes from 0x01 to 0x7E that are equal
+ * exactly if `uriparse_equal` says so of the references, and that `memcmp` orders as `uriparse_compare` orders these, a prefix
+ * first. So keys can be sorted, grouped and indexed where only bytes are compared. `flags` says what the key is of (enum
+ * uriparse_key_flag); compare keys of the same flags only. A key is no reference, and nothing reads it back.
+ *
+ * The layout is frozen, and its first byte is its version: docs/KEYS.md. Returns URIPARSE_KEY_FLAGS for other flags, whatever
+ * the text. */
+uint32_t uriparse_key(uint32_t flags, uriparse_bytes text, size_t len, uriparse_buffer out, size_t room,
+                      size_t *needed);
 
 /* Writes to `out` the text of a reference's normal form (section 6.2.2: case, percent-encoding, dot segments), and to
  * `*needed` its length. If `room` is less, returns URIPARSE_NO_ROOM, and `out` is unchanged. No zero byte follows the

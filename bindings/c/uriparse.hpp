@@ -307,6 +307,12 @@ inline std::optional<std::string> origin(input text) { return detail::write_part
 // The 4 bytes of the host if it is an IPv4 address, the 16 bytes if it is an IPv6 address.
 inline std::optional<std::string> host_address(input text) { return detail::write_part(uriparse_host_address, text, URIPARSE_NO_ADDRESS); }
 
+// The sort key of a reference: bytes that are equal and ordered as references are, by these flags of uriparse_key_flag.
+inline std::string key(input text, std::uint32_t flags = 0) {
+  const auto call = [flags](auto... arguments) { return uriparse_key(flags, arguments...); };
+  return detail::write(call, text);
+}
+
 inline std::string encode(uriparse_component component, input bytes) {
   std::string out;
   const auto call = [component](auto... arguments) { return uriparse_encode(component, arguments...); };

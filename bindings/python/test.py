@@ -199,6 +199,7 @@ def test_wrong_types() -> None:
     single: List[Callable[..., object]] = [
         uriparse.parse, uriparse.spans, uriparse.first_fault, uriparse.is_uri, uriparse.hash_of, uriparse.normalize,
         uriparse.origin, uriparse.pairs, uriparse.decode, uriparse.form_decode, uriparse.escape, uriparse.trim_link, uriparse.is_normalized,
+        uriparse.key, uriparse.normal_key, uriparse.page_key,
         uriparse.is_ambiguous, uriparse.port_or_default, uriparse.host_address, lambda data: uriparse.encode("query", data)]
     for call in single:
         for other, name in ((None, "None"), (5, "int"), ([97], "list"), (memoryview(b"abcd").cast("I"), "memoryview")):
@@ -424,6 +425,16 @@ def test_checks() -> None:
         assert uriparse.host_address(text) == expected == uriparse.URI(text).host_address() == uriparse.host_address(text.encode())
     for text, normal in (("http://h/", True), ("http://h", False), ("a/../b", False), ("", True)):
         assert uriparse.is_normalized(text) is normal is uriparse.URI(text).is_normalized() is uriparse.is_normalized(text.encode())
+    for text, key, page in (("http://h:80/./%7e#f", "1\2http\1\2\1\0011h\1\00200080/./~\1\1\2f\1", "1\2http\1\2\1\0011h\1\1/~\1\1\1"),
+                            ("", "1\1\1\1\1\1", "1\1\1\1\1\1")):
+        assert uriparse.key(text) == key == uriparse.URI(text).key() == uriparse.key(text.encode()).decode()
+        assert uriparse.page_key(text) == page == uriparse.URI(text).page_key() == uriparse.page_key(text.encode()).decode()
+    assert uriparse.normal_key("//%31.2.3.4/") != uriparse.normal_key("//1.2.3.4/") and uriparse.URI("a/../b").normal_key() == uriparse.key("b")
+    keyed = ["//h:9", "//h:10", "a", "a?", "//1.2.3.4", "//z", "%41", "b#c", "s:"]
+    assert sorted(keyed, key=uriparse.key) == [str(uri) for uri in sorted(map(uriparse.URI, keyed))]
+    many_keys: List[Optional[str]] = uriparse.key_many(["a/../b#c", "a b"], "page")
+    assert many_keys == [uriparse.key("b"), None] and uriparse.key_many([b"a"], errors="raise") == [uriparse.key(b"a")]
+    assert type(raised(uriparse.key_many, ["a"], "other")) is ValueError
     for left, right, same in (("HTTPS://u@H:443/a", "https://h/b", True), ("http://h", "https://h", False), ("file:///a", "file:///a", False)):
         assert uriparse.same_origin(left, right) is same is uriparse.URI(left).same_origin(right) is uriparse.same_origin(left.encode(), right.encode())
     for segment, ambiguous in (("..;a", True), ("a%2fb", True), ("..", False), ("", False)):

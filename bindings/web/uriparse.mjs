@@ -40,6 +40,7 @@ const CODES = {
   0x80: ["scheme", "scheme is empty"],
   0x81: ["scheme", "invalid scheme character"],
   0x82: ["scheme", "scheme starts with non-alphabetic character"],
+  0x90: [null, "no key has these flags"],
   // codes.tsv: end
 };
 

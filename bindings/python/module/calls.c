@@ -137,6 +137,9 @@ static PyObject *texts_to_bool(PyObject *module, const struct texts_to_bool *row
     return shape(module, &name##_row, args, count, kwnames);                                                                               \
   }
 CALL(text_to_text, normalize, "normalize", "text", uriparse_normalize, text_fault, OR_URI, 0, 0)
+CALL(text_to_text, key, "key", "text", exact_key, text_fault, OR_URI, 0, 0)
+CALL(text_to_text, normal_key, "normal_key", "text", normal_form_key, text_fault, OR_URI, 0, 0)
+CALL(text_to_text, page_key, "page_key", "text", page_form_key, text_fault, OR_URI, 0, 0)
 CALL(text_to_text, origin, "origin", "text", uriparse_origin, text_fault, OR_URI, URIPARSE_NO_ORIGIN, 0)
 CALL(text_to_text, escape, "escape", "text", uriparse_escape, text_fault, OR_URI | STRICT, 0, 0)
 CALL(text_to_text, trim_link, "trim_link", "text", uriparse_trim_link, text_fault, PLAIN, 0, URIPARSE_PATH_BYTE)
@@ -342,6 +345,16 @@ PyMethodDef call_methods[] = {
     METHOD("normalize", normalize,
            "normalize($module, /, text)\n--\n\n"
            "The normal form."),
+    METHOD("key", key,
+           "key($module, /, text)\n--\n\n"
+           "The sort key of a reference: characters from U+0001 to U+007E that are equal exactly if the references are, and ordered\n"
+           "as `compare` orders these. Nothing reads a key back."),
+    METHOD("normal_key", normal_key,
+           "normal_key($module, /, text)\n--\n\n"
+           "The sort key of the normal form. The kind of the host stays, which the normal form's string loses."),
+    METHOD("page_key", page_key,
+           "page_key($module, /, text)\n--\n\n"
+           "The sort key of the page that a reference leads to: of its normal form without a default port and a fragment."),
     METHOD("origin", origin,
            "origin($module, /, text)\n--\n\n"
            "The origin of a URI: its scheme, its host and, unless that is the default one, its port. It is None for a URI without a\n"

@@ -201,6 +201,22 @@ static PyObject *normalize_many(PyObject *module, PyObject *const *args, Py_ssiz
   return batch ? write_all(batch, uriparse_normalize, NULL, NULL) : NULL;
 }
 
+/* The keys of the form with this number: 0 of the reference as it is, 1 of the normal form, 2 of the page. */
+static PyObject *key_many(PyObject *module, PyObject *const *args, Py_ssize_t count, PyObject *kwnames) {
+  static const char *const names[] = {"form", "texts", "is_raising"};
+  static write_call *const keys[] = {exact_key, normal_form_key, page_form_key};
+  PyObject *sources[3];
+  if (!take_arguments("key_many", names, 3, args, count, kwnames, sources)) return NULL;
+  size_t form = PyLong_AsSize_t(sources[0]);
+  if (PyErr_Occurred()) return NULL;
+  if (form > 2) {
+    PyErr_SetString(PyExc_ValueError, "no form has this number");
+    return NULL;
+  }
+  struct batch *batch = batch_of(state_of(module), sources[1], sources[2], "text");
+  return batch ? write_all(batch, keys[form], NULL, NULL) : NULL;
+}
+
 /* What a call says of each text and another one. */
 static PyObject *test_all(struct batch *batch, test_two_call *call, const struct text *other) {
   bool answers[TEXTS];
@@ -313,7 +329,8 @@ static PyObject *get_many(PyObject *module, PyObject *const *args, Py_ssize_t co
   return batch ? parse_all(batch, make_component, which) : NULL;
 }
 
-PyMethodDef many_methods[] = {METHOD("normalize_many", normalize_many, NULL), METHOD("resolve_many", resolve_many, NULL),
+PyMethodDef many_methods[] = {METHOD("normalize_many", normalize_many, NULL), METHOD("key_many", key_many, NULL),
+                              METHOD("resolve_many", resolve_many, NULL),
                               METHOD("relativize_many", relativize_many, NULL), METHOD("is_within_many", is_within_many, NULL),
                               METHOD("host_is_within_many", host_is_within_many, NULL), METHOD("parse_many", parse_many, NULL),
                               METHOD("get_many", get_many, NULL), {NULL, NULL, 0, NULL}};

@@ -110,6 +110,9 @@ typedef uint32_t write_two_call(const void *left, size_t left_len, const void *r
                                 size_t *needed);
 typedef uint32_t test_two_call(const void *left, size_t left_len, const void *right, size_t right_len, bool *answer);
 
+/* texts.c: the sort keys of a reference as it is, of its normal form, and of the page that it leads to. */
+write_call exact_key, normal_form_key, page_form_key;
+
 /* A method that takes arguments by position and by name. */
 #define METHOD(name, function, doc) {name, (PyCFunction)(void (*)(void))(function), METH_FASTCALL | METH_KEYWORDS, doc}
 

@@ -281,3 +281,15 @@ PyObject *output_object(struct output *output, bool is_str) {
   output_release(output);
   return object;
 }
+
+uint32_t exact_key(const void *text, size_t len, void *out, size_t room, size_t *needed) {
+  return uriparse_key(0, text, len, out, room, needed);
+}
+
+uint32_t normal_form_key(const void *text, size_t len, void *out, size_t room, size_t *needed) {
+  return uriparse_key(URIPARSE_KEY_NORMAL, text, len, out, room, needed);
+}
+
+uint32_t page_form_key(const void *text, size_t len, void *out, size_t room, size_t *needed) {
+  return uriparse_key(URIPARSE_KEY_PAGE, text, len, out, room, needed);
+}

@@ -76,6 +76,14 @@ extern "C" {
     ) -> u32;
     fn uriparse_default_port(scheme: *const u8, len: usize) -> u32;
     fn uriparse_hash(text: *const u8, len: usize, hash: *mut u64) -> u32;
+    fn uriparse_key(
+        flags: u32,
+        text: *const u8,
+        len: usize,
+        out: *mut u8,
+        room: usize,
+        needed: *mut usize,
+    ) -> u32;
     fn uriparse_normalize(
         text: *const u8,
         len: usize,

@@ -17,4 +17,7 @@ pub mod BuilderLemmas
 pub mod ResolveLemmas
 pub mod FileLemmas
 pub mod OriginLemmas
+pub mod SortLemmas
+pub mod SortKeyLemmas
+pub mod KeyFormLemmas
 pub use Rattle.uriparse_reference.proofs.lemmas.reading.CharacterLemmas

@@ -7,6 +7,7 @@ pub mod Within
 pub mod File
 pub mod ChangeOf
 pub mod Apart
+pub mod SortKey
 -- texts: RFC 3986, section 2
 pub use Rattle.uriparse_text.specs.Bytes
 pub use Rattle.uriparse_text.specs.Classes

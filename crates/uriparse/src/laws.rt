@@ -31,6 +31,10 @@ ghost use Rattle.uriparse_authority.specs.Normal.{canonical_host};
 ghost use Rattle.uriparse_authority.specs.declared.authority.host.Host.{Host};
 ghost use Rattle.uriparse_scheme.specs.Scheme as scheme;
 ghost use Rattle.uriparse.specs.RelativeReference as relative;
+ghost use Rattle.std.specs.declared.cmp.Ordering.TheVariants.{Equal, Less};
+ghost use Rattle.uriparse.specs.SortKey.{AreKeyBytes, compared_keys, exact, key_order, in_form, page, shown_key, sort_key};
+ghost use Rattle.uriparse.specs.declared.sort_key.KeyForm.{KeyForm};
+ghost use Rattle.uriparse_reference.specs.Order.{reference_cmp};
 ghost use Rattle.uriparse.specs.Uri as uri;
 ghost use Rattle.uriparse.specs.Within.{IsWithin, is_within, shown_within, target_within};
 ghost use Rattle.uriparse_path.specs.Dots.{all_but_last, is_double_dot};
@@ -65,6 +69,17 @@ pub fn one_uri()
 pub fn one_relative_reference()
     ensures parts { (p : Parts) → Valid p → IsOfKind false p → with_mapped_error relative.map_error (of_parts p) ≡ Ok p }
     ensures built { (p : Parts) → Valid p → IsOfKind false p → relative.relative_built (held p) ≡ Ok p }
+{}
+
+/// Sort keys are equal exactly if the references are, and bytes order keys as references are ordered.
+/// A key has bytes from 0x01 to 0x7E alone, and no reference has the text of one. What a key of a
+/// form is of is valid, so that all of this holds for keys of one form.
+pub fn one_sort_key()
+    ensures order { (p q : Parts) → Valid p → Valid q → key_order (sort_key p) (sort_key q) ≡ reference_cmp p q }
+    ensures same { (p q : Parts) → Valid p → Valid q → (sort_key p ≡ sort_key q) ↔ Same p q }
+    ensures bytes { (p : Parts) → Valid p → AreKeyBytes (sort_key p) }
+    ensures apart { (p q : Parts) → Spells (sort_key p) q → ⊥ }
+    ensures valid { (f : KeyForm) (p : Parts) → Valid p → Valid (in_form f p) }
 {}
 
 /// A URI has the origin that it has without its scheme's default port. Two URIs have the same origin
@@ -273,4 +288,27 @@ pub fn examples_of_files()
     ensures fragment { path_named (codes "file:///a#") ≡ Some (Err errors.HasFragment) }
     ensures escaped_slash { path_named (codes "file:///a%2fb%00") ≡ Some (Err errors.EscapedSlash) }
     ensures escaped_nul { path_named (codes "file:///%00/%2F") ≡ Some (Err errors.ContainsNul) }
+{}
+
+/// Sort keys, with `|` for the byte that ends a text or stands for an absent component, and `^` for
+/// the one that precedes a present component.
+pub fn examples_of_sort_keys()
+    ensures nothing { shown_key exact [] ≡ Some (codes "1|||||") }
+    ensures plain { shown_key exact (codes "http://h/%7e?q") ≡ Some (codes "1^http|^||1h||/~|^q||") }
+    ensures spelled { shown_key exact (codes "HTTP://%48/~?%71") ≡ Some (codes "1^http|^||1h||/~|^q||") }
+    ensures whole { shown_key exact (codes "//u:p@1.2.3.4:80#f") ≡ Some (codes "1|^^u|^p|401020304^00080/||^f|") }
+    ensures ipv6 { shown_key exact (codes "//[2001:DB8::1]") ≡ Some (codes "1|^||620010db8000000000000000000000001|/|||") }
+    ensures future { shown_key exact (codes "//[vF.A:b]") ≡ Some (codes "1|^||7vf.a:b||/|||") }
+    ensures hidden { shown_key exact (codes "//%31.2.3.4") ≡ Some (codes "1|^||11.2.3.4||/|||") }
+    ensures empty { shown_key exact (codes "a?") ≡ Some (codes "1||a|^||") }
+    ensures absent { shown_key exact (codes "a") ≡ Some (codes "1||a|||") }
+    ensures of_page { shown_key page (codes "HTTP://H:80/a/./b/../c?#f") ≡ Some (codes "1^http|^||1h||/a/c|^||") }
+    ensures page_of_hidden { shown_key page (codes "http://%31.2.3.4/#f") ≡ Some (codes "1^http|^||11.2.3.4||/|||") }
+    ensures other_port { shown_key page (codes "https://h:80") ≡ Some (codes "1^https|^||1h|^00080/|||") }
+    ensures ports { compared_keys exact (codes "//h:9") (codes "//h:10") ≡ Some Less }
+    ensures addresses { compared_keys exact (codes "//9.0.0.0") (codes "//10.0.0.0") ≡ Some Less }
+    ensures kinds { compared_keys exact (codes "//z") (codes "//1.2.3.4") ≡ Some Less }
+    ensures prefix { compared_keys exact (codes "//a/z") (codes "//a.b/c") ≡ Some Less }
+    ensures queries { compared_keys exact (codes "a#z") (codes "a?") ≡ Some Less }
+    ensures fragments { compared_keys page (codes "a#z") (codes "a") ≡ Some Equal }
 {}

@@ -19,6 +19,7 @@ pub mod laws;
 mod order;
 mod reference_of;
 pub mod relative_reference;
+pub mod sort_key;
 mod text_of;
 pub mod uri;
 mod view_of;
@@ -30,6 +31,7 @@ pub use relative_reference::{
     RelativeReference, RelativeReferenceBuilder, RelativeReferenceError, RelativeReferenceText,
     RelativeReferenceView,
 };
+pub use sort_key::{KeyForm, sort_key_into, sort_key_to_string};
 pub use text_of::TextOf;
 pub use uri::{Origin, URI, URIBuilder, URIError, URIText, URIView};
 pub use uriparse_authority::authority;

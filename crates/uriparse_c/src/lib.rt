@@ -34,7 +34,10 @@ ghost use Rattle.uriparse_reference.specs.View.{Viewed};
 ghost use Rattle.uriparse_reference.specs.declared.uri_reference.change.ChangeError.TheVariants as changes;
 ghost use Rattle.uriparse.specs.declared.uri.origin.Origin.{Origin};
 ghost use Rattle.uriparse.specs.Origin.{have_same_origin, origin, text as origin_text};
+ghost use Rattle.uriparse.specs.SortKey.{in_form, sort_key};
+ghost use Rattle.uriparse.specs.declared.sort_key.KeyForm.{KeyForm};
 ghost use Rattle.uriparse.specs.Within.{IsWithin};
+ghost use Rattle.uriparse_ffi.specs.Keys.{form_of};
 ghost use Rattle.uriparse_authority.specs.Host as hosts;
 ghost use Rattle.uriparse_authority.specs.declared.authority.error.HostError.{HostError};
 ghost use Rattle.uriparse_authority.specs.declared.authority.host.Host.{Host};
@@ -58,6 +61,7 @@ use uriparse_ffi::checks::{
 use uriparse_ffi::code::{ACCEPTED, code_of, truth_of};
 use uriparse_ffi::coding::{write_decoded, write_encoded, write_escaped, write_trimmed};
 use uriparse_ffi::forms::write_form_decoded;
+use uriparse_ffi::keys::write_key;
 use uriparse_ffi::origins::{write_origin, write_same_origin};
 use uriparse_ffi::pair_edits::{write_appended, write_with_pair, write_without};
 use uriparse_ffi::pairs::{UriPair, named_pair, next_named_pair, pair_at};
@@ -294,6 +298,27 @@ pub extern "C" fn uriparse_normalize(text: &[u8], out: &mut [u8], needed: &mut u
     ensures refused { (e : URIReferenceError) → fault text.now ≡ Some e → IsRefused (spec.code_of e) out.old out.new needed.new result }
 {
     write_normal(text, out, needed)
+}
+
+/// Writes the sort key of a reference to the buffer, in the form that the flags ask for. Does not
+/// allocate.
+#[unsafe(no_mangle)]
+pub extern "C" fn uriparse_key(
+    flags: u32,
+    text: &[u8],
+    out: &mut [u8],
+    needed: &mut usize,
+) -> u32
+    // The buffer holds the sort key, or it is too small.
+    ensures written { (f : KeyForm) (p : Parts) → form_of flags ≡ Some f → Spells text.now p → IsPut (sort_key (in_form f p)) out.old out.new needed.new result }
+
+    // A faulty text is rejected, and the buffer is kept.
+    ensures refused { (f : KeyForm) (e : URIReferenceError) → form_of flags ≡ Some f → fault text.now ≡ Some e → IsRefused (spec.code_of e) out.old out.new needed.new result }
+
+    // So are flags without a meaning, whatever the text.
+    ensures unknown { form_of flags ≡ None → IsRefused spec.key_flags out.old out.new needed.new result }
+{
+    write_key(flags, text, out, needed)
 }
 
 /// Resolves a reference against a base, and writes the text of the target to the buffer. Does not

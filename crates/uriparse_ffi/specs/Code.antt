@@ -77,6 +77,10 @@ no_pairs = 14
 abbrev pub no_address : ℕ
 no_address = 15
 
+-- a sort key is asked for by flags without a meaning
+abbrev pub key_flags : ℕ
+key_flags = 0x90
+
 -- added to the code of a base's error
 abbrev pub in_base : ℕ
 in_base = 0x100

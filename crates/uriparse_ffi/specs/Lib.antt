@@ -1,6 +1,7 @@
 pub mod Addresses
 pub mod Code
 pub mod Components
+pub mod Keys
 pub mod Hash
 pub mod Pairs
 pub mod Put

@@ -10,6 +10,7 @@ pub mod checks;
 pub mod code;
 pub mod coding;
 pub mod forms;
+pub mod keys;
 pub mod laws;
 pub mod origins;
 pub mod pair_edits;

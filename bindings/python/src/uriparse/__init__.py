@@ -28,20 +28,22 @@ except ImportError as _error:
 from ._errors import IN_BASE, NO_ROOM, Code, Component, URIError, error_text
 # methods.tsv: imports
 from ._uriparse import (compare, decode, default_port, equal, form_decode, hash_of, host_is_within, is_ambiguous,
-                        is_normalized, is_uri, is_within, normalize, origin, pair, pair_values, pairs, parse,
-                        port_or_default, relativize, resolve, same_origin, trim_link, with_appended_pair, with_pair)
+                        is_normalized, is_uri, is_within, key, normal_key, normalize, origin, page_key, pair,
+                        pair_values, pairs, parse, port_or_default, relativize, resolve, same_origin, trim_link,
+                        with_appended_pair, with_pair)
 # methods.tsv: end
 
 __all__ = [
     "COMPONENTS", "ENCODED", "IN_BASE", "NO_ROOM", "URI", "Buffer", "Code", "Component", "Components", "Encodable",
     "HostFlag", "HostKind", "Parts", "Span", "Text", "URIError", "encode", "error_text", "get_many",
-    "host_is_within_many", "is_within_many", "normalize_many", "parse_many", "relativize_many", "replace",
+    "host_is_within_many", "is_within_many", "key_many", "normalize_many", "parse_many", "relativize_many", "replace",
     "resolve_many", "without_pair", "without_pairs"]
 # methods.tsv: names
 __all__ += ["compare", "decode", "default_port", "equal", "escape", "first_fault", "form_decode", "hash_of",
             "host_address", "host_flags", "host_is_within", "is_ambiguous", "is_normalized", "is_uri", "is_within",
-            "normalize", "origin", "pair", "pair_values", "pairs", "parse", "port_or_default", "relativize", "resolve",
-            "same_origin", "spans", "trim_link", "with_appended_pair", "with_pair"]
+            "key", "normal_key", "normalize", "origin", "page_key", "pair", "pair_values", "pairs", "parse",
+            "port_or_default", "relativize", "resolve", "same_origin", "spans", "trim_link", "with_appended_pair",
+            "with_pair"]
 # methods.tsv: end
 __version__ = "0.4.0"
 if _uriparse.version != __version__:
@@ -380,6 +382,18 @@ class URI(_uriparse.Compared):
         """The normal form."""
         return type(self)(normalize(self))
 
+    def key(self) -> str:
+        """The sort key."""
+        return key(self)
+
+    def normal_key(self) -> str:
+        """The sort key of the normal form."""
+        return normal_key(self)
+
+    def page_key(self) -> str:
+        """The sort key of the page that it leads to."""
+        return page_key(self)
+
     def resolve(self: _URI, reference: Union[str, URI]) -> _URI:
         """The target of a reference against this base."""
         return type(self)(resolve(self, reference))
@@ -407,6 +421,25 @@ def normalize_many(texts: Iterable[Union[Text, URI]], errors: str = "none") -> L
     """The normal form of each text, or None for one that is rejected; with errors="raise" the first of these raises its
     URIError."""
     return _uriparse.normalize_many(texts, _is_raising(errors))
+
+
+_FORMS = {"exact": 0, "normal": 1, "page": 2}
+
+
+@overload
+def key_many(texts: Iterable[Buffer], form: str = "exact", errors: Literal["none"] = "none") -> List[Optional[bytes]]: ...
+@overload
+def key_many(texts: Iterable[Buffer], form: str = "exact", *, errors: Literal["raise"]) -> List[bytes]: ...
+@overload
+def key_many(texts: Iterable[Union[str, URI]], form: str = "exact", errors: Literal["none"] = "none") -> List[Optional[str]]: ...
+@overload
+def key_many(texts: Iterable[Union[str, URI]], form: str = "exact", *, errors: Literal["raise"]) -> List[str]: ...
+def key_many(texts: Iterable[Union[Text, URI]], form: str = "exact", errors: str = "none") -> List[Any]:
+    """The sort key of each text, as `key`, `normal_key` or `page_key` makes it, or None for one that is rejected; with
+    errors="raise" the first of these raises its URIError."""
+    if form not in _FORMS:
+        raise ValueError("no form %r: it is one of exact, normal, page" % form)
+    return _uriparse.key_many(_FORMS[form], texts, _is_raising(errors))
 
 
 @overload

@@ -49,6 +49,7 @@ class Code(enum.IntEnum):
     SCHEME_EMPTY = 0x80
     SCHEME_BYTE = 0x81
     SCHEME_LETTER = 0x82
+    KEY_FLAGS = 0x90
     # codes.tsv: end
 
     @classmethod
@@ -72,7 +73,7 @@ _COMPONENTS_OF_CODES: Dict[int, Component] = {
 # The errors that no byte has: what is missing, or what is wrong of several components together.
 _UNPLACED = (Code.OUT_OF_MEMORY, Code.NO_ROOM, Code.NO_SCHEME, Code.TOO_MANY_SEGMENTS, Code.TWO_SLASHES,
              Code.NO_COMPONENT, Code.NO_ORIGIN, Code.MISSING_HOST, Code.BAD_CHANGE, Code.NO_PAIRS, Code.NO_ADDRESS,
-             Code.SCHEME_EMPTY)
+             Code.SCHEME_EMPTY, Code.KEY_FLAGS)
 # codes.tsv: end
 
 _ERROR_TEXTS = {
@@ -112,6 +113,7 @@ _ERROR_TEXTS = {
     0x80: "scheme is empty",
     0x81: "invalid scheme character",
     0x82: "scheme starts with non-alphabetic character",
+    0x90: "no key has these flags",
     # codes.tsv: end
 }
 
