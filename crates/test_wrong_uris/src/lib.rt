@@ -13,6 +13,7 @@ ghost use Rattle.uriparse_reference.specs.Target.{target};
 ghost use Rattle.uriparse.specs.File as files;
 ghost use Rattle.uriparse.specs.Kinds.{fault_of, of_kind};
 ghost use Rattle.uriparse.specs.Origin as origins;
+ghost use Rattle.uriparse.specs.SortKey as keys;
 ghost use Rattle.uriparse.specs.Uri.{base as without_fragment, map_error};
 ghost use Rattle.uriparse.specs.Within as within;
 ghost use Rattle.uriparse.specs.declared.file.error.FileError.TheVariants as file_errors;
@@ -22,7 +23,8 @@ ghost use Rattle.uriparse.specs.declared.uri.error.URIError.TheVariants as error
 use std::alloc::{AllocError, Global};
 use uriparse::file::{FileError, from_path, to_path};
 use uriparse::{
-    BufferError, Host, Origin, Query, URI, URIBuilder, URIError, URIReference, URIView,
+    BufferError, Host, KeyForm, Origin, Query, ReferenceView, URI, URIBuilder, URIError,
+    URIReference, URIView, sort_key_into, sort_key_to_string,
 };
 
 /// Reads a URI. A fault, or that there is no scheme, is returned whatever memory there is, and a path
@@ -151,4 +153,22 @@ pub fn path_of_uri(alloc: Global, uri: &URI<'_>) -> Result<Vec<u8>, FileError>
     ensures { IfOk result (λ v. files.path_of_uri uri.now ≡ Ok v.items) }
 {
     to_path(alloc, uri)
+}
+
+/// Writes the sort key of a reference.
+pub fn write_key(
+    view: &ReferenceView<'_>,
+    form: KeyForm,
+    out: &mut [u8],
+) -> Result<usize, BufferError>
+    ensures { Writes (keys.sort_key (keys.in_form form view.now.parts)) result out.old out.new }
+{
+    sort_key_into(view, form, out)
+}
+
+/// The sort key of a reference as it is.
+pub fn exact_key(alloc: Global, view: &ReferenceView<'_>) -> Result<String, AllocError>
+    ensures { IfOk result (λ s. string_bytes s ≡ keys.sort_key view.now.parts) }
+{
+    sort_key_to_string(alloc, view, KeyForm::EXACT)
 }

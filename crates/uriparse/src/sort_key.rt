@@ -352,8 +352,7 @@ impl<'v, 't> PutText for KeyText<'v, 't> {
 const MORE: usize = 24;
 
 /// Writes the sort key of a reference to the start of the buffer, and returns its length in bytes; what
-/// follows it in the buffer is unchanged. It has at most 48 bytes more than the reference. RFC 3986,
-/// section 6.2.2.
+/// follows it in the buffer is unchanged. RFC 3986, section 6.2.2.
 ///
 /// If the buffer is too small, it is unchanged, and the error is
 /// [`TooSmall`](BufferError::TooSmall) with the length needed; so a call with an empty buffer
