@@ -155,6 +155,25 @@ write_normal(const struct bytes *texts, char *out, size_t room, size_t *needed)
 	return uriparse_normalize(texts[0].at, texts[0].len, out, room, needed);
 }
 
+/* The sort keys of a reference as it is, of its normal form, and of the page that it leads to. */
+static uint32_t
+write_key(const struct bytes *texts, char *out, size_t room, size_t *needed)
+{
+	return uriparse_key(0, texts[0].at, texts[0].len, out, room, needed);
+}
+
+static uint32_t
+write_normal_key(const struct bytes *texts, char *out, size_t room, size_t *needed)
+{
+	return uriparse_key(URIPARSE_KEY_NORMAL, texts[0].at, texts[0].len, out, room, needed);
+}
+
+static uint32_t
+write_page_key(const struct bytes *texts, char *out, size_t room, size_t *needed)
+{
+	return uriparse_key(URIPARSE_KEY_PAGE, texts[0].at, texts[0].len, out, room, needed);
+}
+
 static uint32_t
 write_target(const struct bytes *texts, char *out, size_t room, size_t *needed)
 {
@@ -245,6 +264,27 @@ Datum
 uri_normalize(PG_FUNCTION_ARGS)
 {
 	return written(fcinfo, write_normal);
+}
+
+PG_FUNCTION_INFO_V1(uri_key);
+Datum
+uri_key(PG_FUNCTION_ARGS)
+{
+	return written(fcinfo, write_key);
+}
+
+PG_FUNCTION_INFO_V1(uri_normal_key);
+Datum
+uri_normal_key(PG_FUNCTION_ARGS)
+{
+	return written(fcinfo, write_normal_key);
+}
+
+PG_FUNCTION_INFO_V1(uri_page_key);
+Datum
+uri_page_key(PG_FUNCTION_ARGS)
+{
+	return written(fcinfo, write_page_key);
 }
 
 PG_FUNCTION_INFO_V1(uri_resolve);

@@ -201,6 +201,8 @@ def test_changes(db: sqlite3.Connection) -> int:
             ("uri_same_origin('HTTPS://u@H:443/a', 'https://h/b')", 1), ("uri_same_origin('file:///a', 'file:///a')", 0),
             ("uri_same_origin('a b', 's:')", None), ("uri_same_origin('s:', NULL)", None),
             ("uri_is_normalized('http://h/')", 1), ("uri_is_normalized('http://h')", 0), ("uri_is_normalized('a b')", None),
+            ("uri_key('//h')", "1\1\2\1\0011h\1\1/\1\1\1"), ("uri_page_key('//h/./#f')", "1\1\2\1\0011h\1\1/\1\1\1"), ("uri_normal_key('//%31.2.3.4') = uri_normal_key('//1.2.3.4')", 0),
+            ("uri_key('a b')", None), ("uri_key(NULL)", None), ("uri_key('//h:9') < uri_key('//h:10')", 1),
             ("uri_is_ambiguous('..;a')", 1), ("uri_is_ambiguous('..')", 0), ("uri_is_ambiguous('a/b')", None), ("uri_is_ambiguous(NULL)", None),
             ("uri_fault_text('a b')", "invalid path character"), ("uri_fault_text('a')", None), ("uri_fault_text(NULL)", None),
             ("uri_port_or_default('https://h')", 443), ("uri_port_or_default('//h:0')", 0), ("uri_port_or_default('//h')", None),

@@ -233,6 +233,19 @@ static uint32_t write_normal(const struct text *texts, char *out, size_t room, s
   return uriparse_normalize(texts[0].at, texts[0].len, out, room, needed);
 }
 
+/* The sort keys of a reference as it is, of its normal form, and of the page that it leads to. */
+static uint32_t write_key(const struct text *texts, char *out, size_t room, size_t *needed) {
+  return uriparse_key(0, texts[0].at, texts[0].len, out, room, needed);
+}
+
+static uint32_t write_normal_key(const struct text *texts, char *out, size_t room, size_t *needed) {
+  return uriparse_key(URIPARSE_KEY_NORMAL, texts[0].at, texts[0].len, out, room, needed);
+}
+
+static uint32_t write_page_key(const struct text *texts, char *out, size_t room, size_t *needed) {
+  return uriparse_key(URIPARSE_KEY_PAGE, texts[0].at, texts[0].len, out, room, needed);
+}
+
 static uint32_t write_target(const struct text *texts, char *out, size_t room, size_t *needed) {
   return uriparse_resolve(texts[0].at, texts[0].len, texts[1].at, texts[1].len, out, room, needed);
 }
@@ -274,6 +287,18 @@ static void result_written(sqlite3_context *context, int count, sqlite3_value **
 
 static void normalize(sqlite3_context *context, int count, sqlite3_value **values) {
   result_written(context, count, values, write_normal);
+}
+
+static void key(sqlite3_context *context, int count, sqlite3_value **values) {
+  result_written(context, count, values, write_key);
+}
+
+static void normal_key(sqlite3_context *context, int count, sqlite3_value **values) {
+  result_written(context, count, values, write_normal_key);
+}
+
+static void page_key(sqlite3_context *context, int count, sqlite3_value **values) {
+  result_written(context, count, values, write_page_key);
 }
 
 static void resolve(sqlite3_context *context, int count, sqlite3_value **values) {
@@ -772,7 +797,8 @@ static const struct {
   {"uri_is_ambiguous", 1, is_ambiguous, NULL}, {"uri_port_or_default", 1, port_or_default, NULL},
   {"uri_host_address", 1, host_address, NULL}, {"uri_param_values", 2, param_values, NULL},
   {"uri_form_decode", 1, form_decode, NULL}, {"uri_trim_link", 1, trim_link, NULL},
-  {"uri_fault_text", 1, fault_text, NULL},
+  {"uri_fault_text", 1, fault_text, NULL}, {"uri_key", 1, key, NULL},
+  {"uri_normal_key", 1, normal_key, NULL}, {"uri_page_key", 1, page_key, NULL},
 };
 
 __attribute__((visibility("default")))

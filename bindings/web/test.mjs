@@ -150,10 +150,18 @@ await test("a lone surrogate", () => {
   assert.equal(uris.encode("query", "😀"), "%F0%9F%98%80");
 });
 await test("a URL", () => assert.equal(uris.normalize(new URL("http://h/%7Ea")), "http://h/~a"));
+await test("sort keys", () => {
+  const texts = ["//h:9", "//h:10", "a", "a?", "//1.2.3.4", "//z", "%41", "b#c", "s:"];
+  const order = (left, right) => (left < right ? -1 : left > right ? 1 : 0);
+  assert.deepEqual([...texts].sort((left, right) => order(uris.key(left), uris.key(right))), [...texts].sort(uris.compare));
+  assert.equal(uris.key("a/../b#c", "normal"), uris.key("b#c"));
+  assert.notEqual(uris.key("//%31.2.3.4/", "normal"), uris.key("//1.2.3.4/", "normal"));
+  assert.throws(() => uris.key("a", "other"), TypeError);
+});
 await test("a value that is no text", () => {
   for (const value of [undefined, null, 1, true, ["a"], {}, Symbol("a")]) {
     for (const name of ["parse", "fault", "isURI", "hash", "normalize", "origin", "escape", "decode", "formDecode", "trimLink", "isNormalized",
-      "isAmbiguous", "portOrDefault", "hostAddress", ...(value === null ? [] : ["pairs"])]) {
+      "key", "isAmbiguous", "portOrDefault", "hostAddress", ...(value === null ? [] : ["pairs"])]) {
       assert.throws(() => uris[name](value), TypeError, name);
     }
     assert.throws(() => uris.pair("s:", value), TypeError);
@@ -358,7 +366,7 @@ const SHARED = {
   same_origin: [uris.sameOrigin, "left", "right"], is_normalized: [uris.isNormalized, "text"], is_ambiguous: [uris.isAmbiguous, "segment"],
   port_or_default: [uris.portOrDefault, "text"], host_address: [(text) => spelled(uris.hostAddress(text)), "text"], hash: [uris.hash, "text"],
   pair_values: [listedValues, "text"], form_decode: [(text) => spelled(uris.formDecode(text)), "text"], trim_link: [uris.trimLink, "text"],
-  encode: [uris.encode],
+  encode: [uris.encode], key: [(text) => uris.key(text), "text"], page_key: [(text) => uris.key(text, "page"), "text"],
   replace: [(text, name, value) => uris.replace(text, { [name]: value }), "text"],
 };
 // No call has a query that is no reference's, and a value that isn't UTF-8 is no string.

@@ -25,12 +25,13 @@ async function told(text: string): Promise<string> {
   const address: Uint8Array | null = uris.hostAddress(text);
   const used: number | null = uris.portOrDefault(text);
   const is: boolean[] = [uris.sameOrigin(text, text), uris.isNormalized(uris.trimLink(text)), uris.isAmbiguous("a")];
+  const keys: string = uris.key(text) + uris.key(text, "normal") + uris.key(text, "page");
   const spelled: Uint8Array = uris.formDecode("a+b");
   const value: string | null = uris.pair(text, new Uint8Array([97]));
   const edited: string = uris.withoutPair(uris.withoutPairs(uris.withAppendedPair(uris.withPair(text, "a", 1), "b", bytes), "a", "b*"), "*");
   const hash: bigint = uris.hash(text) % 2n;
   const equal: boolean = uris.equal(text, uris.normalize(text)) && uris.isURI(uris.resolve(text, "a"));
-  return [host?.[0], kind, parts.port, parts.portNumber?.toFixed(), parts.authority, segments, names, bytes.length, values, hash, equal, uris.escape(text), origin,
+  return [host?.[0], kind, parts.port, parts.portNumber?.toFixed(), parts.authority, segments, names, bytes.length, values, keys, hash, equal, uris.escape(text), origin,
     uris.relativize(text, text), uris.replace(text, changes), order, checks, port?.toFixed(), value, edited,
     values_of_name, address?.length, used?.toFixed(), is, spelled.length].join();
 }

@@ -101,6 +101,8 @@ export interface URIs {
   defaultPort(scheme: string): number | null;
   hash(text: Input): bigint;
   normalize(text: Input): string;
+  /** Characters from U+0001 to U+007E. "normal" is of the normal form, "page" of that without a default port and a fragment. */
+  key(text: Input, form?: "exact" | "normal" | "page"): string;
   resolve(base: Input, reference: Input): string;
   relativize(base: Input, uri: Input): string;
   /** Null for a URI without a host, or with an empty one. The name "%31.2.3.4" and the address "1.2.3.4" have one text. */

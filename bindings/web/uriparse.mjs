@@ -86,6 +86,8 @@ const NEXT = 2 * SPAN;
 const HIDES_ADDRESS = 1;
 const MAY_BE_NUMERIC = 2;
 const HAS_ESCAPES = 4;
+// Of the reference as it is, of its normal form, and of that without a default port and a fragment.
+const KEYS = { exact: 0, normal: 1, page: 7 };
 
 const WORD = 16;
 const PAGE = 65536;
@@ -586,6 +588,14 @@ class URIs {
   /** The text of the normal form: RFC 3986, section 6.2.2. */
   normalize(text) {
     return this.#written("uriparse_normalize", [textOf(text)]);
+  }
+
+  /** The sort key of a reference, of the form "exact", "normal" or "page": equal and ordered as references are, by code units too. */
+  key(text, form = "exact") {
+    if (!Object.hasOwn(KEYS, form)) {
+      throw new TypeError(`no form of a key is ${form}`);
+    }
+    return this.#written("uriparse_key", [textOf(text)], [KEYS[form]]);
   }
 
   /** The text of the target of a reference against a base: section 5.2.2. */

@@ -24,6 +24,7 @@ mod key;
 mod owned;
 mod pairs;
 mod reference;
+mod sort_key;
 #[allow(unsafe_code)]
 mod sys;
 
@@ -39,3 +40,4 @@ pub use key::AsUriRef;
 pub use owned::{UriBuf, UriRefBuf};
 pub use pairs::Pairs;
 pub use reference::{HostKind, Uri, UriRef};
+pub use sort_key::KeyForm;

@@ -77,7 +77,7 @@ pub struct UriRef<'a> {
 pub struct Uri<'a>(UriRef<'a>);
 
 /// What a call writes to the buffer.
-fn written<'o>(out: &'o mut [u8], write: Write<'_>) -> Result<&'o str, BufferError> {
+pub(crate) fn written<'o>(out: &'o mut [u8], write: Write<'_>) -> Result<&'o str, BufferError> {
     let len = write.into_slice(out).map_err(BufferError::of)?;
     Ok(str::from_utf8(&out[..len]).expect("what is written is ASCII"))
 }

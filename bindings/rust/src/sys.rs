@@ -525,6 +525,8 @@ impl Paired<'_> {
 #[derive(Clone, Copy)]
 pub(crate) enum Write<'a> {
     Normal(&'a [u8]),
+    /// The sort key of the form with these flags.
+    Key(u32, &'a [u8]),
     /// The target of the second against the first.
     Target(&'a [u8], &'a [u8]),
     /// What leads from the first to the second.
@@ -572,6 +574,9 @@ impl Write<'_> {
             match self {
                 Self::Normal(text) => {
                     uriparse_normalize(text.as_ptr(), text.len(), out, room, needed)
+                }
+                Self::Key(flags, text) => {
+                    uriparse_key(flags, text.as_ptr(), text.len(), out, room, needed)
                 }
                 Self::Target(base, text) => {
                     let (base, base_len) = (base.as_ptr(), base.len());
@@ -677,6 +682,7 @@ impl Write<'_> {
             Self::Normal(text) | Self::Origin(text) => text.len() + 2,
             Self::Decoded(text) | Self::FormDecoded(text) | Self::Trimmed(text) => text.len(),
             Self::Encoded(_, text) | Self::Escaped(text) => text.len() + 16,
+            Self::Key(_, text) => text.len() + 24,
             Self::Target(base, text) | Self::Relative(base, text) => base.len() + text.len() + 2,
             Self::Changed(text, _, values) => text.len() + values.len() + 8,
             Self::WithPair(pair) => pair.query.len() + pair.name.len() + 16,

@@ -7,7 +7,7 @@ use std::net::IpAddr;
 use std::path::Path;
 use uriparse_rattle::{
     decode, default_port, encode, form_decode, is_ambiguous, trim_link, Change, Changes, Component,
-    Encoding, Error, ErrorKind, HostKind, Uri, UriRef, UriRefBuf,
+    Encoding, Error, ErrorKind, HostKind, KeyForm, Uri, UriRef, UriRefBuf,
 };
 
 /// The codes of `uriparse.h`, as the rows name them.
@@ -198,6 +198,8 @@ fn answer_of_one(call: &str, text: &[u8]) -> Option<Result<Bytes, Error>> {
         "decode" => decode(plain()).map(Some),
         "form_decode" => form_decode(plain()).map(Some),
         "trim_link" => Ok(shown(trim_link(plain()))),
+        "key" => read(|uri| shown(uri.key(KeyForm::EXACT))),
+        "page_key" => read(|uri| shown(uri.key(KeyForm::PAGE))),
         _ => return None,
     })
 }

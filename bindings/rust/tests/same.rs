@@ -4,7 +4,7 @@ use std::convert::TryFrom;
 use std::net::IpAddr;
 use uriparse_rattle::{
     decode, encode, escape, form_decode, is_ambiguous, trim_link, Change, Changes, Encoding, Error,
-    Uri, UriRef,
+    KeyForm, Uri, UriRef,
 };
 
 type OfOne = unsafe extern "C" fn(*const u8, usize, *mut u8, usize, *mut usize) -> u32;
@@ -287,6 +287,16 @@ fn check_reference(uri: UriRef<'_>, base: &str) {
         Ok(bytes(uri.normalize())),
         "{text}"
     );
+    for form in [KeyForm::EXACT, KeyForm::PAGE] {
+        let flags = if form == KeyForm::PAGE { 7 } else { 0 };
+        // SAFETY: the text and the buffer are valid for their lengths.
+        let key = written(|out, room, needed| unsafe {
+            uriparse_key(flags, a, text.len(), out, room, needed)
+        });
+        assert_eq!(key, Ok(bytes(uri.key(form))), "{text}");
+        let mut out = [0; 2_000];
+        assert!(text.len() > 1_000 || uri.key_into(form, &mut out) == Ok(&*uri.key(form)));
+    }
     // SAFETY: each text is valid for its length.
     let within = asked(|out| unsafe { uriparse_host_is_within(a, text.len(), b, base.len(), out) });
     assert_eq!(within, uri.host_is_within(base).map_err(code), "{text}");
