@@ -87,6 +87,7 @@ pub fn reach_of_ipv4(ipv4: Ipv4Addr) -> Reach
 }
 
 /// Where an IPv6 address leads.
+#[tactic(auto, unfolding(uriparse_text::specs::Reach::ipv6_reach, uriparse_text::specs::Reach::ipv6_rows))]
 pub fn reach_of_ipv6(ipv6: Ipv6Addr) -> Reach
     ensures { result ≡ ipv6_reach ipv6 }
 {
