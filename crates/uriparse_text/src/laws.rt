@@ -3,6 +3,7 @@
 ghost use Rattle.std.specs.Prelude.{◌≡◌, ◌==◌, ◌↔◌, ◌<◌, ◌∷◌, ◌++◌, ℕ, List, [], Option, Result, Ok, Err, Some, None, true, false, flat_map, length, map, not, codes, drop, take, slice_get};
 ghost use Rattle.std.specs.Char.{is_ascii_whitespace};
 ghost use Rattle.std.specs.List.{Contains, ends_with, filter, find, list_all, list_any};
+ghost use Rattle.std.specs.Net.Addr.{octets_of};
 ghost use Rattle.std.specs.List.Sorted.{IsPermutation, IsSortedBy};
 ghost use Rattle.uriparse_text.specs.declared.internal.token.Token.{Token};
 ghost use Rattle.uriparse_text.specs.declared.internal.class.Class.{Class};
@@ -22,7 +23,7 @@ ghost use Rattle.uriparse_text.specs.Pairs.{Pair, are_pair_bytes, decoded_pair, 
 ghost use Rattle.uriparse_text.specs.Starts.{Writes, too_small};
 ghost use Rattle.uriparse_text.specs.declared.internal.forward_buffer.TooSmall.{TooSmall};
 ghost use Rattle.uriparse_text.specs.Address.{IsOctets, IsSegments, SpellsIpv4, SpellsIpv6, ipv4_text, ipv6_text, ipv4_reading, ipv6_reading, IsPrintedIpv6, is_ipv4_byte, is_ipv6_byte};
-ghost use Rattle.uriparse_text.specs.Reach.{IsLongest, Row, are_distinct, ipv4_reach, ipv4_rows, ipv6_reach, ipv6_rows, is_in, reach_of, row_of};
+ghost use Rattle.uriparse_text.specs.Reach.{IsLongest, Row, are_distinct, ipv4_reach, ipv4_rows, inverted, ipv6_reach, ipv6_rows, is_in, reach_of, row_of};
 ghost use Rattle.uriparse_text.specs.declared.address.reach.Reach.TheVariants as reach;
 
 /// A text has no fault exactly if it is a concatenation of tokens of the class; else its fault is
@@ -271,6 +272,18 @@ pub fn one_longest_prefix()
     ensures none { (width : ℕ) (rows : List Row) (a : List ℕ) → row_of width rows a ≡ None → (s : Row) → Contains rows s → is_in width a s ≡ false }
     ensures ipv4 { are_distinct 8 ipv4_rows ≡ true }
     ensures ipv6 { are_distinct 16 ipv6_rows ≡ true }
+{}
+
+/// An IPv6 address that embeds an IPv4 address leads where that one does; but `::1` is the loopback
+/// address and not `0.0.0.1`. A Teredo address is global exactly if both addresses in it are: the
+/// server's, and the client's, which is inverted.
+#[tactic(auto, unfolding(crate::specs::Reach::ipv6_reach, crate::specs::Reach::ipv6_rows))]
+pub fn embedded_addresses()
+    ensures mapped { (a b : ℕ) → ipv6_reach (0 ∷ 0 ∷ 0 ∷ 0 ∷ 0 ∷ 0xffff ∷ a ∷ b ∷ []) ≡ ipv4_reach (octets_of (a ∷ b ∷ [])) }
+    ensures compatible { (a b : ℕ) → ((a ≡ 0) × (b ≡ 1) → ⊥) → ipv6_reach (0 ∷ 0 ∷ 0 ∷ 0 ∷ 0 ∷ 0 ∷ a ∷ b ∷ []) ≡ ipv4_reach (octets_of (a ∷ b ∷ [])) }
+    ensures translated { (a b : ℕ) → ipv6_reach (0x64 ∷ 0xff9b ∷ 0 ∷ 0 ∷ 0 ∷ 0 ∷ a ∷ b ∷ []) ≡ ipv4_reach (octets_of (a ∷ b ∷ [])) }
+    ensures tunnelled { (a b c d e f g : ℕ) → ipv6_reach (0x2002 ∷ a ∷ b ∷ c ∷ d ∷ e ∷ f ∷ g ∷ []) ≡ ipv4_reach (octets_of (a ∷ b ∷ [])) }
+    ensures teredo { (a b c d e f : ℕ) → (ipv6_reach (0x2001 ∷ 0 ∷ a ∷ b ∷ c ∷ d ∷ e ∷ f ∷ []) ≡ reach.Global) ↔ ((ipv4_reach (octets_of (a ∷ b ∷ [])) ≡ reach.Global) × (ipv4_reach (inverted (octets_of (e ∷ f ∷ []))) ≡ reach.Global)) }
 {}
 
 /// Texts of addresses, and what they are read as.
