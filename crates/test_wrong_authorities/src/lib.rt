@@ -8,6 +8,7 @@ ghost use Rattle.uriparse_authority.specs.Authority as authorities;
 ghost use Rattle.uriparse_authority.specs.Authority.{with_host, with_username};
 ghost use Rattle.uriparse_authority.specs.Host.{key, reading, text};
 ghost use Rattle.uriparse_authority.specs.Normal.{canonical_host};
+ghost use Rattle.uriparse_authority.specs.Public.{IsPublic, address_of as spec_address_of};
 ghost use Rattle.uriparse_authority.specs.Within.{IsWithin, has_escapes as spec_has_escapes};
 ghost use Rattle.uriparse_authority.specs.Order.{authority_key_cmp, host_key_cmp};
 
@@ -15,7 +16,7 @@ use std::alloc::{AllocError, Global};
 use std::cmp::Ordering;
 use std::fmt;
 use uriparse_authority::authority::{
-    Authority, AuthorityError, Host, HostError, IPvFuture, Username,
+    Authority, AuthorityError, Host, HostError, IPvFuture, IpAddr, Username,
 };
 
 /// Reads a host.
@@ -65,6 +66,20 @@ pub fn has_escapes(host: &Host<'_>) -> bool
     ensures { result ≡ spec_has_escapes host.now }
 {
     host.has_escapes()
+}
+
+/// Whether a host leads anywhere on the Internet, as far as its text says.
+pub fn is_public(host: &Host<'_>) -> bool
+    ensures { IsTrue result ↔ IsPublic host.now }
+{
+    host.is_public()
+}
+
+/// The address that a host is.
+pub fn address_of(host: &Host<'_>) -> Option<IpAddr>
+    ensures { result ≡ spec_address_of host.now }
+{
+    host.address()
 }
 
 /// Sets an authority's user name, or takes it away, with the password.

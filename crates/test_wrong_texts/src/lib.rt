@@ -21,6 +21,7 @@ ghost use Rattle.uriparse_text.specs.Coding.{decoded, encoded, form_decoded};
 ghost use Rattle.uriparse_text.specs.Link as links;
 ghost use Rattle.uriparse_text.specs.Pairs as pairs;
 ghost use Rattle.uriparse_text.specs.Query.{reading};
+ghost use Rattle.uriparse_text.specs.Reach.{ip_reach, ipv4_reach, ipv6_reach};
 ghost use Rattle.uriparse_text.specs.Starts.{Writes};
 ghost use Rattle.uriparse_text.specs.declared.internal.class.Class.TheVariants as class;
 
@@ -28,7 +29,7 @@ use std::alloc::{AllocError, Global};
 use std::cmp::Ordering;
 use std::fmt;
 use std::hash::{Hash, Hasher};
-use uriparse_text::address::{Ipv4Addr, Ipv6Addr};
+use uriparse_text::address::{IpAddr, Ipv4Addr, Ipv6Addr, Reach};
 use uriparse_text::internal::TooSmall;
 use uriparse_text::link::trim_link;
 use uriparse_text::query::{Pairs, Query, QueryError};
@@ -76,6 +77,28 @@ pub fn write_address<W: fmt::Write>(address: &Ipv6Addr, f: &mut fmt::Formatter<W
     ensures { DisplaysOnOk W.write_str_gives f.old result (Some (ipv6_text address.now)) f.new }
 {
     fmt::Display::fmt(address, f)
+}
+
+/// Where an IPv4 address leads.
+pub fn reach_of_ipv4(ipv4: Ipv4Addr) -> Reach
+    ensures { result ≡ ipv4_reach ipv4 }
+{
+    ipv4.reach()
+}
+
+/// Where an IPv6 address leads.
+#[tactic(auto, unfolding(uriparse_text::specs::Reach::ipv6_reach, uriparse_text::specs::Reach::ipv6_rows))]
+pub fn reach_of_ipv6(ipv6: Ipv6Addr) -> Reach
+    ensures { result ≡ ipv6_reach ipv6 }
+{
+    ipv6.reach()
+}
+
+/// Where an address of either kind leads.
+pub fn reach_of_ip(ip: IpAddr) -> Reach
+    ensures { result ≡ ip_reach ip }
+{
+    ip.reach()
 }
 
 /// The query that stands for these bytes.

@@ -46,11 +46,14 @@ pub use Rattle.uriparse_scheme.specs.declared.scheme.error.UnregisteredSchemeErr
 -- authorities: section 3.2
 pub use Rattle.uriparse_text.specs.Address
 pub use Rattle.uriparse_text.specs.IpAddr
+pub use Rattle.uriparse_text.specs.Reach
+pub use Rattle.uriparse_text.specs.declared.address.reach.Reach as ReachValue
 pub use Rattle.uriparse_authority.specs.Authority
 pub use Rattle.uriparse_authority.specs.Username
 pub use Rattle.uriparse_authority.specs.Password
 pub use Rattle.uriparse_authority.specs.Host
 pub use Rattle.uriparse_authority.specs.Within as HostWithin
+pub use Rattle.uriparse_authority.specs.Public as HostPublic
 pub use Rattle.uriparse_authority.specs.Name
 pub use Rattle.uriparse_authority.specs.Future
 pub use Rattle.uriparse_authority.specs.Port

@@ -37,7 +37,7 @@ pub use uri::{Origin, URI, URIBuilder, URIError, URIText, URIView};
 pub use uriparse_authority::authority;
 pub use uriparse_authority::authority::{
     Authority, AuthorityError, Host, HostError, IPvFuture, IpAddr, Ipv4Addr, Ipv6Addr, Password,
-    PasswordError, PortError, RegisteredName, RegisteredNameError, Username, UsernameError,
+    PasswordError, PortError, Reach, RegisteredName, RegisteredNameError, Username, UsernameError,
 };
 pub use uriparse_path::path;
 pub use uriparse_path::path::{Path, PathError, PathOf, Segment, Segments};

@@ -13,3 +13,4 @@ pub mod Normal
 pub mod Scanned
 pub mod Ends
 pub mod Within
+pub mod Public

@@ -22,6 +22,10 @@ ghost use Rattle.uriparse_authority.specs.Port as port;
 ghost use Rattle.uriparse_authority.specs.Normal.{canonical_host, canonical_authority};
 ghost use Rattle.uriparse_authority.specs.Offset.{IsAtPercentIff, IsWrongByte, fault_offset};
 ghost use Rattle.uriparse_authority.specs.Authority.{AuthorityParts, Spells, Valid, ReadsBack, canonical_text, ends_authority, fault, fed, fed_key, host_text, joined, key, kind, password_text, port_text, print, reading, rest_error, username_text, whole_authority, whole_reading};
+ghost use Rattle.uriparse_text.specs.Reach.{ip_reach};
+ghost use Rattle.uriparse_text.specs.declared.address.IpAddr.{IpAddr};
+ghost use Rattle.uriparse_text.specs.declared.address.reach.Reach.TheVariants.{Global};
+ghost use Rattle.uriparse_authority.specs.Public.{IsPublic, IsPublicName, address_of};
 ghost use Rattle.uriparse_authority.specs.Within.{EndsWithName, IsNameWithin, IsWithin, has_escapes, hides_address, labels, may_be_numeric, without_end_dot};
 
 /// Reading returns exactly what a text spells: a host, a name by itself, an address of a later
@@ -226,4 +230,48 @@ pub fn examples_of_taken_names()
     ensures percent { has_escapes (RegisteredName (codes "a%2541")) ≡ true }
     ensures unreserved { has_escapes (RegisteredName (codes "www.%65xample%2Ecom")) ≡ false }
     ensures no_name { has_escapes (IPvFuture (codes "v1.a")) ≡ false }
+{}
+
+/// Public hosts. A host that is an address is public exactly if the address is global. A public name
+/// isn't empty, has no escapes, hides no address and isn't numeric. An address of a later version isn't
+/// public. Equal hosts are both public or neither is. A public host stays public in canonical spelling, and
+/// the canonical spelling reads as the same host, and not as an address that was hidden.
+pub fn public_hosts()
+    ensures is_address { (h : Host) (a : IpAddr) → (address_of h ≡ Some a) ↔ (h ≡ host.host_at a) }
+    ensures address { (a : IpAddr) → IsPublic (host.host_at a) ↔ (ip_reach a ≡ Global) }
+    ensures name { (n : List ℕ) → IsPublic (RegisteredName n) → IsPublicName (RegisteredName n) }
+    ensures later_version { (f : List ℕ) → IsPublic (IPvFuture f) → ⊥ }
+    ensures equals { (g h : Host) → host.Valid g → host.Valid h → host.key g ≡ host.key h → IsPublic g → IsPublic h }
+    ensures normal { (h : Host) → host.Valid h → IsPublic h → IsPublic (canonical_host h) }
+    ensures back { (h : Host) → host.Valid h → IsPublic h → host.reading (host.canonical_text h) ≡ Ok (canonical_host h) }
+{}
+
+/// Hosts that are public, and hosts that are not. The last clauses show that the premises of the laws are
+/// needed: a name that is not valid, and octets that are no address.
+#[tactic(auto, unfolding(uriparse_text::specs::Reach::ipv4_reach, uriparse_text::specs::Reach::ipv4_rows, uriparse_text::specs::Reach::ipv6_reach, uriparse_text::specs::Reach::ipv6_rows, uriparse_text::specs::Address::ipv4_reading, std::specs::Net::Reader::read_ipv4, std::specs::Net::Reader::read_octet, std::specs::Net::Reader::read_number, uriparse_text::specs::Canonical::canonical_in, uriparse_text::specs::Tokens::tokens, uriparse_text::specs::Bytes::is_unreserved, uriparse_text::specs::Bytes::is_sub_delim, uriparse_text::specs::Classes::is_plain, uriparse_text::specs::Faults::fault))]
+pub fn examples_of_public_hosts()
+    ensures address { IsPublic (IPv4Address (8 ∷ 8 ∷ 8 ∷ 8 ∷ [])) }
+    ensures later_address { IsPublic (IPv6Address (0x2606 ∷ 0x4700 ∷ 0x4700 ∷ 0 ∷ 0 ∷ 0 ∷ 0 ∷ 0x1111 ∷ [])) }
+    ensures translated { IsPublic (IPv6Address (0x64 ∷ 0xff9b ∷ 0 ∷ 0 ∷ 0 ∷ 0 ∷ 0x808 ∷ 0x808 ∷ [])) }
+    ensures name { IsPublic (RegisteredName (codes "example.com")) }
+    ensures unreserved { IsPublic (RegisteredName (codes "www.%65xample.com.")) }
+    ensures localhost { IsPublic (RegisteredName (codes "localhost")) }
+    ensures loopback { IsPublic (IPv4Address (127 ∷ 0 ∷ 0 ∷ 1 ∷ [])) → ⊥ }
+    ensures mapped { IsPublic (IPv6Address (0 ∷ 0 ∷ 0 ∷ 0 ∷ 0 ∷ 0xffff ∷ 0xa00 ∷ 1 ∷ [])) → ⊥ }
+    ensures translated_private { IsPublic (IPv6Address (0x64 ∷ 0xff9b ∷ 0 ∷ 0 ∷ 0 ∷ 0 ∷ 0xa00 ∷ 1 ∷ [])) → ⊥ }
+    ensures tunnelled { IsPublic (IPv6Address (0x2002 ∷ 0x7f00 ∷ 1 ∷ 0 ∷ 0 ∷ 0 ∷ 0 ∷ 0 ∷ [])) → ⊥ }
+    ensures link_local { IsPublic (IPv6Address (0xfe80 ∷ 0 ∷ 0 ∷ 0 ∷ 0 ∷ 0 ∷ 0 ∷ 1 ∷ [])) → ⊥ }
+    ensures later_version { IsPublic (IPvFuture (codes "v1.a")) → ⊥ }
+    ensures empty { IsPublic (RegisteredName []) → ⊥ }
+    ensures hidden { IsPublic (RegisteredName (codes "%31.2.3.4")) → ⊥ }
+    ensures hidden_global { IsPublic (RegisteredName (codes "%38.8.8.8")) → ⊥ }
+    ensures hexadecimal { IsPublic (RegisteredName (codes "0x7f.1")) → ⊥ }
+    ensures number { IsPublic (RegisteredName (codes "2130706433")) → ⊥ }
+    ensures dot_at_the_end { IsPublic (RegisteredName (codes "127.0.0.1.")) → ⊥ }
+    ensures escape { IsPublic (RegisteredName (codes "a%2Fb")) → ⊥ }
+    ensures space { IsPublic (RegisteredName (codes "a b")) }
+    ensures space_is_rejected { host.reading (codes "a b") ≡ Err host_errors.InvalidIPv4OrRegisteredNameCharacter }
+    ensures no_octets { IsPublic (IPv4Address []) }
+    ensures four_octets { IsPublic (IPv4Address (0 ∷ 0 ∷ 0 ∷ 0 ∷ [])) → ⊥ }
+    ensures one_text { host.key (IPv4Address []) ≡ host.key (IPv4Address (0 ∷ 0 ∷ 0 ∷ 0 ∷ [])) }
 {}

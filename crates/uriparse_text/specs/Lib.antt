@@ -13,6 +13,7 @@ pub mod Segment
 pub mod Ambiguous
 pub mod Address
 pub mod IpAddr
+pub mod Reach
 pub mod Alike
 pub mod Scanned
 pub mod Escapes

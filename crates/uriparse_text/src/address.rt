@@ -6,9 +6,11 @@
 mod ipv4;
 mod ipv6;
 pub(crate) mod printed;
+mod reach;
 
 pub use ipv4::Ipv4Addr;
 pub use ipv6::Ipv6Addr;
+pub use reach::Reach;
 use std::fmt;
 
 /// An IPv4 or an IPv6 address.

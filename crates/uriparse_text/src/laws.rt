@@ -2,7 +2,8 @@
 //! law.
 ghost use Rattle.std.specs.Prelude.{◌≡◌, ◌==◌, ◌↔◌, ◌<◌, ◌∷◌, ◌++◌, ℕ, List, [], Option, Result, Ok, Err, Some, None, true, false, flat_map, length, map, not, codes, drop, take, slice_get};
 ghost use Rattle.std.specs.Char.{is_ascii_whitespace};
-ghost use Rattle.std.specs.List.{ends_with, filter, find, list_all, list_any};
+ghost use Rattle.std.specs.List.{Contains, ends_with, filter, find, list_all, list_any};
+ghost use Rattle.std.specs.Net.Addr.{octets_of};
 ghost use Rattle.std.specs.List.Sorted.{IsPermutation, IsSortedBy};
 ghost use Rattle.uriparse_text.specs.declared.internal.token.Token.{Token};
 ghost use Rattle.uriparse_text.specs.declared.internal.class.Class.{Class};
@@ -22,6 +23,8 @@ ghost use Rattle.uriparse_text.specs.Pairs.{Pair, are_pair_bytes, decoded_pair, 
 ghost use Rattle.uriparse_text.specs.Starts.{Writes, too_small};
 ghost use Rattle.uriparse_text.specs.declared.internal.forward_buffer.TooSmall.{TooSmall};
 ghost use Rattle.uriparse_text.specs.Address.{IsOctets, IsSegments, SpellsIpv4, SpellsIpv6, ipv4_text, ipv6_text, ipv4_reading, ipv6_reading, IsPrintedIpv6, is_ipv4_byte, is_ipv6_byte};
+ghost use Rattle.uriparse_text.specs.Reach.{IsLongest, Row, are_distinct, ipv4_reach, ipv4_rows, inverted, ipv6_reach, ipv6_rows, is_in, reach_of, row_of};
+ghost use Rattle.uriparse_text.specs.declared.address.reach.Reach.TheVariants as reach;
 
 /// A text has no fault exactly if it is a concatenation of tokens of the class; else its fault is
 /// at the least place where no such token begins.
@@ -261,6 +264,28 @@ pub fn examples_of_links()
     ensures empty { link [] ≡ [] }
 {}
 
+/// Where an address leads is decided by the longest prefix that it begins with, and by nothing if it
+/// begins with none. No two rows of a table have the same prefix.
+#[tactic(auto, unfolding(crate::specs::Reach::ipv4_rows, crate::specs::Reach::ipv6_rows))]
+pub fn one_longest_prefix()
+    ensures some { (width : ℕ) (rows : List Row) (a : List ℕ) (r : Row) → row_of width rows a ≡ Some r → IsLongest width rows a r }
+    ensures none { (width : ℕ) (rows : List Row) (a : List ℕ) → row_of width rows a ≡ None → (s : Row) → Contains rows s → is_in width a s ≡ false }
+    ensures ipv4 { are_distinct 8 ipv4_rows ≡ true }
+    ensures ipv6 { are_distinct 16 ipv6_rows ≡ true }
+{}
+
+/// An IPv6 address that embeds an IPv4 address leads where that one does; but `::1` is the loopback
+/// address and not `0.0.0.1`. A Teredo address is global exactly if both addresses in it are: the
+/// server's, and the client's, which is inverted.
+#[tactic(auto, unfolding(crate::specs::Reach::ipv6_reach, crate::specs::Reach::ipv6_rows))]
+pub fn embedded_addresses()
+    ensures mapped { (a b : ℕ) → ipv6_reach (0 ∷ 0 ∷ 0 ∷ 0 ∷ 0 ∷ 0xffff ∷ a ∷ b ∷ []) ≡ ipv4_reach (octets_of (a ∷ b ∷ [])) }
+    ensures compatible { (a b : ℕ) → ((a ≡ 0) × (b ≡ 1) → ⊥) → ipv6_reach (0 ∷ 0 ∷ 0 ∷ 0 ∷ 0 ∷ 0 ∷ a ∷ b ∷ []) ≡ ipv4_reach (octets_of (a ∷ b ∷ [])) }
+    ensures translated { (a b : ℕ) → ipv6_reach (0x64 ∷ 0xff9b ∷ 0 ∷ 0 ∷ 0 ∷ 0 ∷ a ∷ b ∷ []) ≡ ipv4_reach (octets_of (a ∷ b ∷ [])) }
+    ensures tunnelled { (a b c d e f g : ℕ) → ipv6_reach (0x2002 ∷ a ∷ b ∷ c ∷ d ∷ e ∷ f ∷ g ∷ []) ≡ ipv4_reach (octets_of (a ∷ b ∷ [])) }
+    ensures teredo { (a b c d e f : ℕ) → (ipv6_reach (0x2001 ∷ 0 ∷ a ∷ b ∷ c ∷ d ∷ e ∷ f ∷ []) ≡ reach.Global) ↔ ((ipv4_reach (octets_of (a ∷ b ∷ [])) ≡ reach.Global) × (ipv4_reach (inverted (octets_of (e ∷ f ∷ []))) ≡ reach.Global)) }
+{}
+
 /// Texts of addresses, and what they are read as.
 #[tactic(auto, unfolding(crate::specs::Address::ipv4_reading, crate::specs::Address::ipv6_reading, std::specs::Net::Reader::read_ipv4, std::specs::Net::Reader::read_ipv6, std::specs::Net::Reader::read_octet, std::specs::Net::Reader::read_number, std::specs::Net::Reader::read_segment, std::specs::Net::Reader::read_segments))]
 pub fn examples_of_addresses()
@@ -278,6 +303,67 @@ pub fn examples_of_addresses()
     ensures dotted_in_front { ipv6_reading (codes "1.2.3.4::") ≡ None }
     ensures dotted_leading_zero { ipv6_reading (codes "::01.2.3.4") ≡ None }
     ensures one_colon_in_front { ipv6_reading (codes ":1::2") ≡ None }
+{}
+
+/// Where IPv4 addresses lead: those before, at both ends of, and after each block of the registry.
+#[tactic(auto, unfolding(crate::specs::Reach::ipv4_reach, crate::specs::Reach::ipv4_rows, crate::specs::Address::ipv4_reading, crate::specs::Address::ipv6_reading, std::specs::Net::Reader::read_ipv4, std::specs::Net::Reader::read_ipv6, std::specs::Net::Reader::read_octet, std::specs::Net::Reader::read_number, std::specs::Net::Reader::read_segment, std::specs::Net::Reader::read_segments))]
+pub fn examples_of_ipv4_reach()
+    ensures this_network { map reach_of (codes "0.0.0.0" ∷ codes "0.255.255.255" ∷ codes "1.0.0.0" ∷ []) ≡ map Some (reach.Unspecified ∷ reach.Reserved ∷ reach.Global ∷ []) }
+    ensures this_host { map reach_of (codes "0.0.0.0" ∷ codes "0.0.0.1" ∷ []) ≡ map Some (reach.Unspecified ∷ reach.Reserved ∷ []) }
+    ensures ten { map reach_of (codes "9.255.255.255" ∷ codes "10.0.0.0" ∷ codes "10.255.255.255" ∷ codes "11.0.0.0" ∷ []) ≡ map Some (reach.Global ∷ reach.Private ∷ reach.Private ∷ reach.Global ∷ []) }
+    ensures shared { map reach_of (codes "100.63.255.255" ∷ codes "100.64.0.0" ∷ codes "100.127.255.255" ∷ codes "100.128.0.0" ∷ []) ≡ map Some (reach.Global ∷ reach.Shared ∷ reach.Shared ∷ reach.Global ∷ []) }
+    ensures loopback { map reach_of (codes "126.255.255.255" ∷ codes "127.0.0.0" ∷ codes "127.255.255.255" ∷ codes "128.0.0.0" ∷ []) ≡ map Some (reach.Global ∷ reach.Loopback ∷ reach.Loopback ∷ reach.Global ∷ []) }
+    ensures link_local { map reach_of (codes "169.253.255.255" ∷ codes "169.254.0.0" ∷ codes "169.254.255.255" ∷ codes "169.255.0.0" ∷ []) ≡ map Some (reach.Global ∷ reach.LinkLocal ∷ reach.LinkLocal ∷ reach.Global ∷ []) }
+    ensures private { map reach_of (codes "172.15.255.255" ∷ codes "172.16.0.0" ∷ codes "172.31.255.255" ∷ codes "172.32.0.0" ∷ []) ≡ map Some (reach.Global ∷ reach.Private ∷ reach.Private ∷ reach.Global ∷ []) }
+    ensures protocols { map reach_of (codes "191.255.255.255" ∷ codes "192.0.0.0" ∷ codes "192.0.0.255" ∷ codes "192.0.1.0" ∷ []) ≡ map Some (reach.Global ∷ reach.Reserved ∷ reach.Reserved ∷ reach.Global ∷ []) }
+    ensures port_control { map reach_of (codes "192.0.0.8" ∷ codes "192.0.0.9" ∷ codes "192.0.0.10" ∷ []) ≡ map Some (reach.Reserved ∷ reach.Global ∷ reach.Global ∷ []) }
+    ensures relays { map reach_of (codes "192.0.0.9" ∷ codes "192.0.0.10" ∷ codes "192.0.0.11" ∷ []) ≡ map Some (reach.Global ∷ reach.Global ∷ reach.Reserved ∷ []) }
+    ensures test_net { map reach_of (codes "192.0.1.255" ∷ codes "192.0.2.0" ∷ codes "192.0.2.255" ∷ codes "192.0.3.0" ∷ []) ≡ map Some (reach.Global ∷ reach.Documentation ∷ reach.Documentation ∷ reach.Global ∷ []) }
+    ensures private_home { map reach_of (codes "192.167.255.255" ∷ codes "192.168.0.0" ∷ codes "192.168.255.255" ∷ codes "192.169.0.0" ∷ []) ≡ map Some (reach.Global ∷ reach.Private ∷ reach.Private ∷ reach.Global ∷ []) }
+    ensures benchmarking { map reach_of (codes "198.17.255.255" ∷ codes "198.18.0.0" ∷ codes "198.19.255.255" ∷ codes "198.20.0.0" ∷ []) ≡ map Some (reach.Global ∷ reach.Benchmarking ∷ reach.Benchmarking ∷ reach.Global ∷ []) }
+    ensures test_net_2 { map reach_of (codes "198.51.99.255" ∷ codes "198.51.100.0" ∷ codes "198.51.100.255" ∷ codes "198.51.101.0" ∷ []) ≡ map Some (reach.Global ∷ reach.Documentation ∷ reach.Documentation ∷ reach.Global ∷ []) }
+    ensures test_net_3 { map reach_of (codes "203.0.112.255" ∷ codes "203.0.113.0" ∷ codes "203.0.113.255" ∷ codes "203.0.114.0" ∷ []) ≡ map Some (reach.Global ∷ reach.Documentation ∷ reach.Documentation ∷ reach.Global ∷ []) }
+    ensures multicast { map reach_of (codes "223.255.255.255" ∷ codes "224.0.0.0" ∷ codes "239.255.255.255" ∷ codes "240.0.0.0" ∷ []) ≡ map Some (reach.Global ∷ reach.Multicast ∷ reach.Multicast ∷ reach.Reserved ∷ []) }
+    ensures future_use { map reach_of (codes "239.255.255.255" ∷ codes "240.0.0.0" ∷ codes "255.255.255.255" ∷ []) ≡ map Some (reach.Multicast ∷ reach.Reserved ∷ reach.Broadcast ∷ []) }
+    ensures broadcast { map reach_of (codes "255.255.255.254" ∷ codes "255.255.255.255" ∷ []) ≡ map Some (reach.Reserved ∷ reach.Broadcast ∷ []) }
+    ensures none { reach_of (codes "10.0.0") ≡ None }
+{}
+
+/// Where IPv6 addresses lead: those before, at both ends of, and after each block of the registry, and some that embed an IPv4
+/// address.
+#[tactic(auto, unfolding(crate::specs::Reach::ipv4_reach, crate::specs::Reach::ipv4_rows, crate::specs::Reach::ipv6_reach, crate::specs::Reach::ipv6_rows, crate::specs::Address::ipv4_reading, crate::specs::Address::ipv6_reading, std::specs::Net::Reader::read_ipv4, std::specs::Net::Reader::read_ipv6, std::specs::Net::Reader::read_octet, std::specs::Net::Reader::read_number, std::specs::Net::Reader::read_segment, std::specs::Net::Reader::read_segments))]
+pub fn examples_of_ipv6_reach()
+    ensures compatible { map reach_of (codes "::" ∷ codes "::ffff:ffff" ∷ codes "::1:0:0" ∷ []) ≡ map Some (reach.Unspecified ∷ reach.Broadcast ∷ reach.Global ∷ []) }
+    ensures unspecified { map reach_of (codes "::" ∷ codes "::1" ∷ []) ≡ map Some (reach.Unspecified ∷ reach.Loopback ∷ []) }
+    ensures loopback { map reach_of (codes "::" ∷ codes "::1" ∷ codes "::2" ∷ []) ≡ map Some (reach.Unspecified ∷ reach.Loopback ∷ reach.Reserved ∷ []) }
+    ensures mapped { map reach_of (codes "::fffe:ffff:ffff" ∷ codes "::ffff:0.0.0.0" ∷ codes "::ffff:255.255.255.255" ∷ codes "::1:0:0:0" ∷ []) ≡ map Some (reach.Global ∷ reach.Unspecified ∷ reach.Broadcast ∷ reach.Global ∷ []) }
+    ensures translation { map reach_of (codes "64:ff9a:ffff:ffff:ffff:ffff:ffff:ffff" ∷ codes "64:ff9b::" ∷ codes "64:ff9b::ffff:ffff" ∷ codes "64:ff9b::1:0:0" ∷ []) ≡ map Some (reach.Global ∷ reach.Unspecified ∷ reach.Broadcast ∷ reach.Global ∷ []) }
+    ensures local_translation { map reach_of (codes "64:ff9b:0:ffff:ffff:ffff:ffff:ffff" ∷ codes "64:ff9b:1::" ∷ codes "64:ff9b:1:ffff:ffff:ffff:ffff:ffff" ∷ codes "64:ff9b:2::" ∷ []) ≡ map Some (reach.Global ∷ reach.Private ∷ reach.Private ∷ reach.Global ∷ []) }
+    ensures discard { map reach_of (codes "ff:ffff:ffff:ffff:ffff:ffff:ffff:ffff" ∷ codes "100::" ∷ codes "100::ffff:ffff:ffff:ffff" ∷ codes "100:0:0:1::" ∷ []) ≡ map Some (reach.Global ∷ reach.Reserved ∷ reach.Reserved ∷ reach.Reserved ∷ []) }
+    ensures dummy { map reach_of (codes "100::ffff:ffff:ffff:ffff" ∷ codes "100:0:0:1::" ∷ codes "100::1:ffff:ffff:ffff:ffff" ∷ codes "100:0:0:2::" ∷ []) ≡ map Some (reach.Reserved ∷ reach.Reserved ∷ reach.Reserved ∷ reach.Global ∷ []) }
+    ensures protocols { map reach_of (codes "2000:ffff:ffff:ffff:ffff:ffff:ffff:ffff" ∷ codes "2001::" ∷ codes "2001:1ff:ffff:ffff:ffff:ffff:ffff:ffff" ∷ codes "2001:200::" ∷ []) ≡ map Some (reach.Global ∷ reach.Broadcast ∷ reach.Reserved ∷ reach.Global ∷ []) }
+    ensures teredo { map reach_of (codes "2000:ffff:ffff:ffff:ffff:ffff:ffff:ffff" ∷ codes "2001::" ∷ codes "2001:0:ffff:ffff:ffff:ffff:ffff:ffff" ∷ codes "2001:1::" ∷ []) ≡ map Some (reach.Global ∷ reach.Broadcast ∷ reach.Unspecified ∷ reach.Reserved ∷ []) }
+    ensures port_control { map reach_of (codes "2001:1::" ∷ codes "2001:1::1" ∷ codes "2001:1::2" ∷ []) ≡ map Some (reach.Reserved ∷ reach.Global ∷ reach.Global ∷ []) }
+    ensures relays { map reach_of (codes "2001:1::1" ∷ codes "2001:1::2" ∷ codes "2001:1::3" ∷ []) ≡ map Some (reach.Global ∷ reach.Global ∷ reach.Global ∷ []) }
+    ensures registration { map reach_of (codes "2001:1::2" ∷ codes "2001:1::3" ∷ codes "2001:1::4" ∷ []) ≡ map Some (reach.Global ∷ reach.Global ∷ reach.Reserved ∷ []) }
+    ensures benchmarking { map reach_of (codes "2001:1:ffff:ffff:ffff:ffff:ffff:ffff" ∷ codes "2001:2::" ∷ codes "2001:2:0:ffff:ffff:ffff:ffff:ffff" ∷ codes "2001:2:1::" ∷ []) ≡ map Some (reach.Reserved ∷ reach.Benchmarking ∷ reach.Benchmarking ∷ reach.Reserved ∷ []) }
+    ensures amt { map reach_of (codes "2001:2:ffff:ffff:ffff:ffff:ffff:ffff" ∷ codes "2001:3::" ∷ codes "2001:3:ffff:ffff:ffff:ffff:ffff:ffff" ∷ codes "2001:4::" ∷ []) ≡ map Some (reach.Reserved ∷ reach.Global ∷ reach.Global ∷ reach.Reserved ∷ []) }
+    ensures as112 { map reach_of (codes "2001:4:111:ffff:ffff:ffff:ffff:ffff" ∷ codes "2001:4:112::" ∷ codes "2001:4:112:ffff:ffff:ffff:ffff:ffff" ∷ codes "2001:4:113::" ∷ []) ≡ map Some (reach.Reserved ∷ reach.Global ∷ reach.Global ∷ reach.Reserved ∷ []) }
+    ensures orchid { map reach_of (codes "2001:1f:ffff:ffff:ffff:ffff:ffff:ffff" ∷ codes "2001:20::" ∷ codes "2001:2f:ffff:ffff:ffff:ffff:ffff:ffff" ∷ codes "2001:30::" ∷ []) ≡ map Some (reach.Reserved ∷ reach.Global ∷ reach.Global ∷ reach.Global ∷ []) }
+    ensures drones { map reach_of (codes "2001:2f:ffff:ffff:ffff:ffff:ffff:ffff" ∷ codes "2001:30::" ∷ codes "2001:3f:ffff:ffff:ffff:ffff:ffff:ffff" ∷ codes "2001:40::" ∷ []) ≡ map Some (reach.Global ∷ reach.Global ∷ reach.Global ∷ reach.Reserved ∷ []) }
+    ensures documentation { map reach_of (codes "2001:db7:ffff:ffff:ffff:ffff:ffff:ffff" ∷ codes "2001:db8::" ∷ codes "2001:db8:ffff:ffff:ffff:ffff:ffff:ffff" ∷ codes "2001:db9::" ∷ []) ≡ map Some (reach.Global ∷ reach.Documentation ∷ reach.Documentation ∷ reach.Global ∷ []) }
+    ensures sixtofour { map reach_of (codes "2001:ffff:ffff:ffff:ffff:ffff:ffff:ffff" ∷ codes "2002::" ∷ codes "2002:ffff:ffff:ffff:ffff:ffff:ffff:ffff" ∷ codes "2003::" ∷ []) ≡ map Some (reach.Global ∷ reach.Unspecified ∷ reach.Broadcast ∷ reach.Global ∷ []) }
+    ensures documentation_2 { map reach_of (codes "3ffe:ffff:ffff:ffff:ffff:ffff:ffff:ffff" ∷ codes "3fff::" ∷ codes "3fff:fff:ffff:ffff:ffff:ffff:ffff:ffff" ∷ codes "3fff:1000::" ∷ []) ≡ map Some (reach.Global ∷ reach.Documentation ∷ reach.Documentation ∷ reach.Global ∷ []) }
+    ensures routing { map reach_of (codes "5eff:ffff:ffff:ffff:ffff:ffff:ffff:ffff" ∷ codes "5f00::" ∷ codes "5f00:ffff:ffff:ffff:ffff:ffff:ffff:ffff" ∷ codes "5f01::" ∷ []) ≡ map Some (reach.Global ∷ reach.Reserved ∷ reach.Reserved ∷ reach.Global ∷ []) }
+    ensures unique_local { map reach_of (codes "fbff:ffff:ffff:ffff:ffff:ffff:ffff:ffff" ∷ codes "fc00::" ∷ codes "fdff:ffff:ffff:ffff:ffff:ffff:ffff:ffff" ∷ codes "fe00::" ∷ []) ≡ map Some (reach.Global ∷ reach.UniqueLocal ∷ reach.UniqueLocal ∷ reach.Global ∷ []) }
+    ensures link_local { map reach_of (codes "fe7f:ffff:ffff:ffff:ffff:ffff:ffff:ffff" ∷ codes "fe80::" ∷ codes "febf:ffff:ffff:ffff:ffff:ffff:ffff:ffff" ∷ codes "fec0::" ∷ []) ≡ map Some (reach.Global ∷ reach.LinkLocal ∷ reach.LinkLocal ∷ reach.Reserved ∷ []) }
+    ensures site_local { map reach_of (codes "febf:ffff:ffff:ffff:ffff:ffff:ffff:ffff" ∷ codes "fec0::" ∷ codes "feff:ffff:ffff:ffff:ffff:ffff:ffff:ffff" ∷ codes "ff00::" ∷ []) ≡ map Some (reach.LinkLocal ∷ reach.Reserved ∷ reach.Reserved ∷ reach.Multicast ∷ []) }
+    ensures multicast { map reach_of (codes "feff:ffff:ffff:ffff:ffff:ffff:ffff:ffff" ∷ codes "ff00::" ∷ codes "ffff:ffff:ffff:ffff:ffff:ffff:ffff:ffff" ∷ []) ≡ map Some (reach.Reserved ∷ reach.Multicast ∷ reach.Multicast ∷ []) }
+    ensures mapped_embeds { map reach_of (codes "::ffff:10.0.0.1" ∷ codes "::ffff:8.8.8.8" ∷ codes "::ffff:169.254.169.254" ∷ []) ≡ map Some (reach.Private ∷ reach.Global ∷ reach.LinkLocal ∷ []) }
+    ensures compatible_embeds { map reach_of (codes "::7f00:1" ∷ codes "::808:808" ∷ []) ≡ map Some (reach.Loopback ∷ reach.Global ∷ []) }
+    ensures translation_embeds { map reach_of (codes "64:ff9b::a00:1" ∷ codes "64:ff9b::808:808" ∷ []) ≡ map Some (reach.Private ∷ reach.Global ∷ []) }
+    ensures sixtofour_embeds { map reach_of (codes "2002:7f00:1::" ∷ codes "2002:808:808::1" ∷ codes "2002:c0a8:101::808:808" ∷ []) ≡ map Some (reach.Loopback ∷ reach.Global ∷ reach.Private ∷ []) }
+    ensures teredo_client { map reach_of (codes "2001:0:4136:e378:8000:63bf:3fff:fdd2" ∷ codes "2001:0:4136:e378:8000:63bf:f7f7:f7f7" ∷ codes "2001:0:a00:1:8000:63bf:f7f7:f7f7" ∷ codes "2001:0:a00:1:8000:63bf:80ff:fffe" ∷ []) ≡ map Some (reach.Documentation ∷ reach.Global ∷ reach.Private ∷ reach.Loopback ∷ []) }
 {}
 
 /// Texts, and their canonical spellings or faults.

@@ -4,3 +4,4 @@ pub mod WithinLawLemmas
 pub mod NameWithinLemmas
 pub mod EndDotLemmas
 pub mod WithinLemmas
+pub mod PublicLemmas

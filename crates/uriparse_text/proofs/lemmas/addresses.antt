@@ -7,3 +7,4 @@ pub mod ByteLemmas
 pub mod RangeLemmas
 pub mod CanonicalLemmas
 pub mod PutLemmas
+pub mod ReachLemmas
