@@ -441,7 +441,7 @@ uint32_t uriparse_append_pair(uriparse_bytes query, size_t len, uriparse_bytes n
  * "%75tm_id=1". The other pairs stay in order, byte for byte. If no pair is left, returns URIPARSE_NO_PAIRS, with `*needed` 0
  * and `out` unchanged: remove the query then (an empty query is one pair with an empty name). Returns URIPARSE_QUERY_BYTE or
  * URIPARSE_QUERY_ESCAPE for a text that is no query, and then URIPARSE_BAD_NAMES if `names` is none. Takes time in proportion to
- * the number of the query's pairs times the length of the names. */
+ * the length of the query times the number of names, plus the length of the names for each 64 pairs of the query. */
 uint32_t uriparse_drop_pairs(uriparse_bytes query, size_t len, uriparse_bytes names, size_t names_len,
                              uriparse_buffer out, size_t room, size_t *needed);
 

@@ -22,6 +22,7 @@ pub mod Coding
 pub mod Pieces
 pub mod Pairs
 pub mod Written
+pub mod Ahead
 pub mod Link
 pub mod Printing
 pub mod Ends

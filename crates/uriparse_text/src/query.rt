@@ -6,6 +6,7 @@ ghost use Rattle.uriparse_text.specs.Query as spec;
 use crate::internal::{Case, Class, Text, TextKind};
 use thiserror::Error;
 
+mod ahead;
 pub(crate) mod append;
 pub(crate) mod find;
 mod pairs;

@@ -8,4 +8,5 @@ pub mod WithoutLemmas
 pub mod SetLemmas
 pub mod SortLemmas
 pub mod NamedLemmas
+pub mod AheadLemmas
 pub mod PutPairLemmas

@@ -2,22 +2,44 @@
 ghost use Rattle.std.specs.Prelude.{◌≡◌, [], Bool, IfSome, is_some, unwrap_or};
 ghost use Rattle.std.specs.List.{find, list_any};
 ghost use Rattle.std.specs.Option.{option_map};
+ghost use Rattle.uriparse_text.specs.Ahead.{Knows};
+ghost use Rattle.uriparse_text.specs.Bytes.{ampersand};
+ghost use Rattle.uriparse_text.specs.Cuts.{after, before};
 ghost use Rattle.uriparse_text.specs.Pairs as spec;
 ghost use Rattle.uriparse_text.specs.Written.{IsFirstAt};
 
 use super::Query;
+use super::ahead::Ahead;
 use super::set::is_named;
 use crate::internal::{
     checked_text, compare_represented, represents_prefix, split_at_delimiter, without_delimiter,
 };
 
+/// Names of at most this many bytes are walked again for each pair.
+const FEW_BYTES: usize = 256;
+
 /// A test of a pair, by its piece of a query.
 pub trait PairTest {
     ghost passes: { Self → spec.Pair → Bool };
 
+    // what an `Ahead` says of a pair
+    ghost seen: { Self → spec.Pair → Bool };
+
     /// Whether the pair of the piece passes.
     fn has(&self, piece: &[u8]) -> bool
         ensures { result ≡ passes self.now (spec.pair_of piece.now) };
+
+    /// Whether the first pair of what is left of a query passes, of which this is the piece. `ahead`
+    /// keeps what is known of the next pairs. Default: nothing, and [`has`](PairTest::has).
+    fn has_next(&self, left: &[u8], piece: &[u8], ahead: &mut Ahead) -> bool
+        requires knows { Knows (seen self.now) ahead.old (spec.pairs left.now) }
+        requires cut { piece.now ≡ before ampersand left.now }
+        ensures answer { result ≡ passes self.now (spec.pair_of piece.now) }
+        ensures knows { Knows (seen self.now) ahead.new (spec.pairs_left (after ampersand left.now)) }
+    {
+        ahead.forget();
+        self.has(piece)
+    }
 }
 
 /// The pair's name stands for these bytes.
@@ -27,8 +49,22 @@ pub struct Named<'n>(pub &'n [u8]);
 impl<'n> PairTest for Named<'n> {
     ghost passes = { λ s p. spec.is_named s.0.now p };
 
+    ghost seen = { λ s p. spec.is_named s.0.now p };
+
     fn has(&self, piece: &[u8]) -> bool {
         is_named(piece, self.0)
+    }
+}
+
+/// Whether the pattern stands for the name.
+#[inline(always)]
+pub(super) fn stands_for(pattern: &[u8], name: &[u8]) -> bool
+    ensures { result ≡ spec.stands_for pattern.now name.now }
+{
+    if pattern.ends_with(b"*") {
+        represents_prefix(name, &pattern[..pattern.len() - 1])
+    } else {
+        compare_represented(pattern, name).is_eq()
     }
 }
 
@@ -39,13 +75,11 @@ struct StandsFor<'n>(&'n [u8]);
 impl<'n> PairTest for StandsFor<'n> {
     ghost passes = { λ s p. spec.stands_for p.0 s.0.now };
 
+    ghost seen = { λ s p. spec.stands_for p.0 s.0.now };
+
     fn has(&self, piece: &[u8]) -> bool {
         let (pattern, _) = split_at_delimiter(piece, b'=');
-        if pattern.ends_with(b"*") {
-            represents_prefix(self.0, &pattern[..pattern.len() - 1])
-        } else {
-            compare_represented(pattern, self.0).is_eq()
-        }
+        stands_for(pattern, self.0)
     }
 }
 
@@ -56,9 +90,19 @@ pub struct Among<'n>(pub &'n [u8]);
 impl<'n> PairTest for Among<'n> {
     ghost passes = { λ s p. spec.is_among_names (spec.pairs s.0.now) p };
 
+    ghost seen = { λ s p. spec.is_among_names (spec.pairs s.0.now) p };
+
     fn has(&self, piece: &[u8]) -> bool {
         let (name, _) = split_at_delimiter(piece, b'=');
         find_pair(&StandsFor(name), self.0).is_some()
+    }
+
+    fn has_next(&self, left: &[u8], piece: &[u8], ahead: &mut Ahead) -> bool {
+        if self.0.len() <= FEW_BYTES {
+            ahead.forget();
+            return self.has(piece);
+        }
+        ahead.next(left, self.0)
     }
 }
 
@@ -67,10 +111,11 @@ pub fn find_pair<'q, T: PairTest>(test: &T, query: &'q [u8]) -> Option<&'q [u8]>
     ensures some { is_some result ≡ list_any (T.passes test.now) (spec.pairs query.now) }
     ensures place { IfSome result (λ left. IsFirstAt (T.passes test.now) query.now left.now) }
 {
+    let mut ahead = Ahead::nothing();
     let mut rest = Some(query);
     while let Some(left) = rest {
         let (piece, following) = split_at_delimiter(left, b'&');
-        if test.has(piece) {
+        if test.has_next(left, piece, &mut ahead) {
             return Some(left);
         }
         rest = without_delimiter(following);

@@ -8,6 +8,7 @@ ghost use Rattle.uriparse_text.specs.Pairs as spec;
 ghost use Rattle.uriparse_text.specs.Starts.{Appends, LeavesRest, Writes};
 ghost use Rattle.uriparse_text.specs.Written.{IsFirstAt};
 
+use super::ahead::Ahead;
 use super::append::mark_after;
 use super::find::{Among, Named, PairTest, find_pair};
 use crate::internal::{
@@ -43,8 +44,14 @@ struct Not<T>(T);
 impl<T: PairTest> PairTest for Not<T> {
     ghost passes = { λ s p. not (T.passes s.0 p) };
 
+    ghost seen = { λ s p. T.seen s.0 p };
+
     fn has(&self, piece: &[u8]) -> bool {
         !self.0.has(piece)
+    }
+
+    fn has_next(&self, left: &[u8], piece: &[u8], ahead: &mut Ahead) -> bool {
+        !self.0.has_next(left, piece, ahead)
     }
 }
 
@@ -80,12 +87,13 @@ fn append_others<T: PairTest>(test: &T, pairs: Option<&[u8]>, out: &mut [u8], le
     ensures appends { Appends (flat_map (λ p. ampersand ∷ spec.piece_of p) (filter (λ p. not (T.passes test.now p)) (spec.pairs_left (option_copied pairs.entry)))) out.old len out.new result }
     ensures rest { LeavesRest out.old len out.new result }
 {
+    let mut ahead = Ahead::nothing();
     let mut total = len;
     let mut rest = pairs;
     while let Some(left) = rest {
         let (piece, following) = split_at_delimiter(left, b'&');
         rest = without_delimiter(following);
-        if !test.has(piece) {
+        if !test.has_next(left, piece, &mut ahead) {
             total = append(b"&", out, total);
             total = append(piece, out, total);
         }

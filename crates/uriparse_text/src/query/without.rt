@@ -6,6 +6,7 @@ ghost use Rattle.uriparse_text.specs.Query.{IsQuery};
 ghost use Rattle.uriparse_text.specs.Written.{ArePairsWritten, AreWritten};
 
 use super::Query;
+use super::ahead::Ahead;
 use super::find::{Among, Named, PairTest};
 use super::pairs::pair_of;
 use crate::internal::{split_at_delimiter, text_from_checked_vec, without_delimiter};
@@ -51,11 +52,12 @@ fn other_pieces<T: PairTest>(alloc: Global, query: &[u8], test: &T) -> Result<Ve
     ensures { IfOk result (λ v. ArePairsWritten (filter (λ p. not (T.passes test.now p)) (spec.pairs query.now)) v.items) }
 {
     let mut text = Vec::with_capacity(alloc, query.len().saturating_add(1))?;
+    let mut ahead = Ahead::nothing();
     let mut rest = Some(query);
     while let Some(left) = rest {
         let (piece, following) = split_at_delimiter(left, b'&');
         rest = without_delimiter(following);
-        if !test.has(piece) {
+        if !test.has_next(left, piece, &mut ahead) {
             text.extend_from_slice(piece)?;
             text.push(b'&')?;
         }
@@ -131,7 +133,7 @@ impl<'q> Query<'q> {
     /// if no pair is left. The others stay in order, byte for byte. A name of `names` that ends in a
     /// literal `*` stands for each name that begins with what precedes the `*`. The values of `names`
     /// don't matter. Reserves capacity once. Takes time in proportion to the length of the query times
-    /// the number of names.
+    /// the number of names, plus the length of the names for each 64 pairs of the query.
     ///
     /// Names are compared by the bytes that they stand for, so `%61` is `a`, and `+` is no space. The
     /// escape `%2A` is a `*` of the name itself.
