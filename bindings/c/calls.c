@@ -70,6 +70,11 @@ uint32_t uriparse_host_flags(uriparse_bytes text, size_t len, uint32_t *flags) {
   return proved_host_flags(text_of(text, len), len, flags);
 }
 
+uint32_t proved_is_public(const uint8_t *text, size_t len, bool *is_public);
+uint32_t uriparse_is_public(uriparse_bytes text, size_t len, bool *is_public) {
+  return proved_is_public(text_of(text, len), len, is_public);
+}
+
 uint32_t proved_is_ambiguous(const uint8_t *segment, size_t len, bool *ambiguous);
 uint32_t uriparse_is_ambiguous(uriparse_bytes segment, size_t len, bool *ambiguous) {
   return proved_is_ambiguous(text_of(segment, len), len, ambiguous);

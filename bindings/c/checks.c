@@ -41,6 +41,12 @@ static void is_normalized(const char *text, uint32_t expected, bool answer) {
   check(code == expected && normalized == (expected == URIPARSE_OK ? answer : !answer), "is_normalized", text);
 }
 
+static void is_public(const char *text, uint32_t expected, bool answer) {
+  bool found = !answer;
+  uint32_t code = uriparse_is_public(text, strlen(text), &found);
+  check(code == expected && found == (expected == URIPARSE_OK ? answer : !answer), "is_public", text);
+}
+
 static void is_ambiguous(const char *segment, uint32_t expected, bool answer) {
   bool ambiguous = !answer;
   uint32_t code = uriparse_is_ambiguous(segment, strlen(segment), &ambiguous);
@@ -304,6 +310,13 @@ int main(void) {
   is_normalized("http://h/%7e", URIPARSE_OK, false);
   is_normalized("//h[", URIPARSE_HOST_BYTE, false);
 
+  is_public("https://example.com/", URIPARSE_OK, true);
+  is_public("//8.8.8.8", URIPARSE_OK, true);
+  is_public("//127.0.0.1", URIPARSE_OK, false);
+  is_public("//[::ffff:10.0.0.1]", URIPARSE_OK, false);
+  is_public("//%31.2.3.4", URIPARSE_OK, false);
+  is_public("/a", URIPARSE_OK, false);
+  is_public("//h[", URIPARSE_HOST_BYTE, false);
   is_ambiguous("..;a", URIPARSE_OK, true);
   is_ambiguous("a%2fb", URIPARSE_OK, true);
   is_ambiguous("%2e%2e", URIPARSE_OK, false);
@@ -388,6 +401,7 @@ int main(void) {
 
   check(uriparse_same_origin(NULL, 0, NULL, 0, &within) == URIPARSE_OK && !within, "same_origin", "NULL");
   check(uriparse_is_normalized(NULL, 0, &within) == URIPARSE_OK && within, "is_normalized", "NULL");
+  check(uriparse_is_public(NULL, 0, &within) == URIPARSE_OK && !within, "is_public", "NULL");
   check(uriparse_is_ambiguous(NULL, 0, &within) == URIPARSE_OK && !within, "is_ambiguous", "NULL");
   check(uriparse_port_or_default(NULL, 0, &order) == URIPARSE_OK && order == -1, "port_or_default", "NULL");
   check(uriparse_host_address(NULL, 0, NULL, 0, &needed) == URIPARSE_NO_ADDRESS && needed == 0, "host_address", "NULL");

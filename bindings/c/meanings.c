@@ -240,7 +240,7 @@ static void numbers(const char *call, struct field text) {
   uint32_t code, flags = 0;
   int32_t port = 0;
   uint64_t hash = 0;
-  bool is_normalized = false;
+  bool is_normalized = false, is_public = false;
   if (strcmp(call, "host_flags") == 0) {
     code = uriparse_host_flags(text.at, text.len, &flags);
     prints_number(flags);
@@ -251,6 +251,9 @@ static void numbers(const char *call, struct field text) {
   } else if (strcmp(call, "is_normalized") == 0) {
     code = uriparse_is_normalized(text.at, text.len, &is_normalized);
     prints(is_normalized ? "true" : "false");
+  } else if (strcmp(call, "is_public") == 0) {
+    code = uriparse_is_public(text.at, text.len, &is_public);
+    prints(is_public ? "true" : "false");
   } else {
     code = uriparse_hash(text.at, text.len, &hash);
     len = (size_t)sprintf(out, "%llu", (unsigned long long)hash);
@@ -304,7 +307,7 @@ static void answer(const struct meaning *row) {
   static const char *const with_part[] = {"origin", "host_address", NULL};
   static const char *const decoding[] = {"decode", "form_decode", NULL};
   static const char *const writing[] = {"resolve", "relativize", "encode", "trim_link", "key", "page_key", NULL};
-  static const char *const with_number[] = {"host_flags", "port_or_default", "is_normalized", "hash", NULL};
+  static const char *const with_number[] = {"host_flags", "port_or_default", "is_normalized", "is_public", "hash", NULL};
   static const char *const comparing[] = {"compare", "equal", "same_origin", "is_within", "host_is_within", NULL};
   const struct field text = row->values[0], other = row->values[1];
   prints("no call");

@@ -89,6 +89,7 @@ static const call_of_row calls[] = {
     {"port_or_default", [](auto text, auto, auto) { return shown(uriparse::port_or_default(text)); }},
     {"host_address", [](auto text, auto, auto) { return shown(uriparse::host_address(text)); }},
     {"is_normalized", [](auto text, auto, auto) { return shown(uriparse::is_normalized(text)); }},
+    {"is_public", [](auto text, auto, auto) { return shown(uriparse::is_public(text)); }},
     {"is_ambiguous", [](auto segment, auto, auto) { return shown(uriparse::is_ambiguous(segment)); }},
     {"same_origin", [](auto left, auto right, auto) { return shown(uriparse::same_origin(left, right)); }},
     {"hash", [](auto text, auto, auto) { return std::to_string(uriparse::hash(text)); }},
@@ -155,7 +156,7 @@ static std::string by_c(std::string_view name, std::string_view base, std::strin
   while (names[which] != name) which++;
   const std::uint32_t code = call(which, base.data(), base.size(), text.data(), text.size(), &to);
   if (code != URIPARSE_OK) return "code " + std::to_string(code & ~std::uint32_t{URIPARSE_IN_BASE});
-  if (name == "equal" || name == "same_origin" || name == "is_normalized" || name == "is_ambiguous" || name == "is_within" || name == "host_is_within")
+  if (name == "equal" || name == "same_origin" || name == "is_normalized" || name == "is_public" || name == "is_ambiguous" || name == "is_within" || name == "host_is_within")
     return shown(to.equal);
   if (name == "compare") return std::to_string(to.order);
   if (name == "port_or_default") return to.order < 0 ? "\\N" : std::to_string(to.order);
@@ -184,6 +185,7 @@ static void check_random(std::string_view base, std::string_view text) {
       {"relativize", [&] { return uriparse::relativize(base, text); }}, {"decode", [&] { return uriparse::decode(text); }},
       {"escape", [&] { return uriparse::escape(text); }}, {"encode", [&] { return uriparse::encode(URIPARSE_SEGMENT, text); }},
       {"same_origin", [&] { return shown(uriparse::same_origin(base, text)); }}, {"is_normalized", [&] { return shown(uriparse::is_normalized(text)); }},
+      {"is_public", [&] { return shown(uriparse::is_public(text)); }},
       {"is_ambiguous", [&] { return shown(uriparse::is_ambiguous(text)); }}, {"port_or_default", [&] { return shown(uriparse::port_or_default(text)); }},
       {"host_address", [&] { return uriparse::host_address(text).value_or("code " + std::to_string(URIPARSE_NO_ADDRESS)); }},
       {"key", [&] { return uriparse::key(text, URIPARSE_KEY_PAGE); }},

@@ -231,6 +231,7 @@ static void check_checks() {
   check(uriparse::default_port("HTTPS") == 443 && !uriparse::default_port("mailto"), "default_port");
   check(uriparse::same_origin("HTTPS://u@H:443/a", "https://h/b") && !uriparse::same_origin("file:///a", "file:///a"), "same_origin");
   check(throws([] { uriparse::same_origin("a", "a b"); }, URIPARSE_PATH_BYTE, 1, 1), "same_origin rejects");
+  check(uriparse::is_public("http://example.com/") && !uriparse::is_public("http://10.0.0.1/"), "is_public");
   check(uriparse::is_normalized("http://h/") && !uriparse::is_normalized("http://h"), "is_normalized");
   check(uriparse::is_ambiguous("..;a") && !uriparse::is_ambiguous(".."), "is_ambiguous");
   check(throws([] { uriparse::is_ambiguous("a/b"); }, URIPARSE_PATH_BYTE, 0, 1), "is_ambiguous rejects");

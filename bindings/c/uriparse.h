@@ -298,6 +298,14 @@ uint32_t uriparse_host_is_within(uriparse_bytes text, size_t len, uriparse_bytes
 /* Writes to `*flags` the sum of the enum uriparse_host_flag of the reference's host, or 0 without a host. */
 uint32_t uriparse_host_flags(uriparse_bytes text, size_t len, uint32_t *flags);
 
+/* Writes to `*is_public` whether the host of a reference leads anywhere on the Internet, as far as its text says: a global address
+ * by IANA's special-purpose registries (RFC 6890), also looked for in IPv6 addresses that embed an IPv4 address; or a name that
+ * isn't empty and for which `uriparse_host_flags` writes 0. It is false without a host.
+ *
+ * DNS may answer for a name with any address: check the address of the connection too. "localhost" and names that end in
+ * ".localhost", ".local" or ".internal" are names like others here. */
+uint32_t uriparse_is_public(uriparse_bytes text, size_t len, bool *is_public);
+
 /* Writes to `*ambiguous` whether readers disagree on what a segment of a path names: whether it has an escaped '/', '\', '%' or
  * zero byte, or is "." or ".." followed by ';' or by an escaped ';', '?' or '#' ("..;a", "a%2fb"). A segment is what stands
  * between two slashes; ".." and "%2e%2e" are not ambiguous. For a text that is no segment, as one with a '/', returns

@@ -180,6 +180,7 @@ inline bool equal(input left, input right) { return detail::read<bool>(uriparse_
 inline int compare(input left, input right) { return detail::read<std::int32_t>(uriparse_compare, left, right); }
 inline bool same_origin(input left, input right) { return detail::read<bool>(uriparse_same_origin, left, right); }
 inline bool is_normalized(input text) { return detail::read<bool>(uriparse_is_normalized, text); }
+inline bool is_public(input text) { return detail::read<bool>(uriparse_is_public, text); }
 inline std::uint64_t hash(input text) { return detail::read<std::uint64_t>(uriparse_hash, text); }
 inline std::string normalize(input text) { return detail::write(uriparse_normalize, text); }
 inline std::string escape(input text) { return detail::write(uriparse_escape, text); }

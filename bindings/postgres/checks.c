@@ -59,6 +59,18 @@ uri_is_normalized(PG_FUNCTION_ARGS)
 	PG_RETURN_BOOL(normalized);
 }
 
+PG_FUNCTION_INFO_V1(uri_is_public);
+Datum
+uri_is_public(PG_FUNCTION_ARGS)
+{
+	struct bytes text = argument(fcinfo, 0);
+	bool		is_public;
+
+	if (uriparse_is_public(text.at, text.len, &is_public) != URIPARSE_OK)
+		PG_RETURN_NULL();
+	PG_RETURN_BOOL(is_public);
+}
+
 PG_FUNCTION_INFO_V1(uri_is_within);
 Datum
 uri_is_within(PG_FUNCTION_ARGS)

@@ -199,7 +199,7 @@ def test_wrong_types() -> None:
     single: List[Callable[..., object]] = [
         uriparse.parse, uriparse.spans, uriparse.first_fault, uriparse.is_uri, uriparse.hash_of, uriparse.normalize,
         uriparse.origin, uriparse.pairs, uriparse.decode, uriparse.form_decode, uriparse.escape, uriparse.trim_link, uriparse.is_normalized,
-        uriparse.key, uriparse.normal_key, uriparse.page_key,
+        uriparse.key, uriparse.normal_key, uriparse.page_key, uriparse.is_public,
         uriparse.is_ambiguous, uriparse.port_or_default, uriparse.host_address, lambda data: uriparse.encode("query", data)]
     for call in single:
         for other, name in ((None, "None"), (5, "int"), ([97], "list"), (memoryview(b"abcd").cast("I"), "memoryview")):
@@ -435,13 +435,15 @@ def test_checks() -> None:
     many_keys: List[Optional[str]] = uriparse.key_many(["a/../b#c", "a b"], "page")
     assert many_keys == [uriparse.key("b"), None] and uriparse.key_many([b"a"], errors="raise") == [uriparse.key(b"a")]
     assert type(raised(uriparse.key_many, ["a"], "other")) is ValueError
+    for text, public in (("http://example.com/", True), ("//10.0.0.1", False), ("//[64:ff9b::808:808]", True), ("//[::ffff:7f00:1]", False), ("a", False)):
+        assert uriparse.is_public(text) is public is uriparse.URI(text).is_public() is uriparse.is_public(text.encode())
     for left, right, same in (("HTTPS://u@H:443/a", "https://h/b", True), ("http://h", "https://h", False), ("file:///a", "file:///a", False)):
         assert uriparse.same_origin(left, right) is same is uriparse.URI(left).same_origin(right) is uriparse.same_origin(left.encode(), right.encode())
     for segment, ambiguous in (("..;a", True), ("a%2fb", True), ("..", False), ("", False)):
         assert uriparse.is_ambiguous(segment) is ambiguous is uriparse.is_ambiguous(segment.encode())
     faults: List[Any] = [
         (uriparse.same_origin, ("a b", "%"), "left", 0x51, 1), (uriparse.same_origin, ("a", "%"), "right", 0x52, 0),
-        (uriparse.is_normalized, ("a b",), "text", 0x51, 1), (uriparse.port_or_default, ("//h:x",), "text", 0x41, 4),
+        (uriparse.is_normalized, ("a b",), "text", 0x51, 1), (uriparse.is_public, ("//h[",), "text", 0x31, 3), (uriparse.port_or_default, ("//h:x",), "text", 0x41, 4),
         (uriparse.host_address, ("//[::g]",), "text", 0x32, 5), (uriparse.is_ambiguous, ("/a",), "segment", 0x51, 0),
         (uriparse.is_ambiguous, ("\u00e9",), "segment", 0x51, 0), (uriparse.is_ambiguous, ("a%2/",), "segment", 0x52, 1),
         (uriparse.is_ambiguous, ("a\ud800",), "segment", 0x51, 1), (uriparse.trim_link, (" \ud800",), "text", 0x51, 1),

@@ -146,11 +146,11 @@ SQL_CALLS = {"check": "uri_valid", "is_uri": "uri_is_uri", "port_number": "uri_p
              "without_pairs": "uri_without_params", "without_pair": "uri_without_param", "host_is_within": "uri_host_is_within",
              "is_within": "uri_is_within", "resolve": "uri_resolve", "relativize": "uri_relativize", "equal": "uri_equal",
              "compare": "uri_compare", "replace": "uri_replace", "decode": "uri_decode", "encode": "uri_encode", "hash": "uri_hash",
-             "same_origin": "uri_same_origin", "is_normalized": "uri_is_normalized", "is_ambiguous": "uri_is_ambiguous",
+             "same_origin": "uri_same_origin", "is_normalized": "uri_is_normalized", "is_public": "uri_is_public", "is_ambiguous": "uri_is_ambiguous",
              "port_or_default": "uri_port_or_default", "host_address": "uri_host_address", "pair_values": "uri_param_values",
              "form_decode": "uri_form_decode", "trim_link": "uri_trim_link", "key": "uri_key", "page_key": "uri_page_key"}
 NO_SQL_CALLS = {"port", "drop_pairs"}
-BOOLEAN_CALLS = {"check", "is_uri", "host_is_within", "is_within", "equal", "same_origin", "is_normalized", "is_ambiguous"}
+BOOLEAN_CALLS = {"check", "is_uri", "host_is_within", "is_within", "equal", "same_origin", "is_normalized", "is_public", "is_ambiguous"}
 # The calls whose first argument is no reference.
 CALLS_OF_DATA = {"decode", "form_decode", "is_ambiguous"}
 

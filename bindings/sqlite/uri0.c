@@ -169,6 +169,15 @@ static void is_normalized(sqlite3_context *context, int count, sqlite3_value **v
     sqlite3_result_int(context, normalized);
 }
 
+/* Whether the host leads anywhere on the Internet, as far as its text says; NULL for what is no reference. */
+static void is_public(sqlite3_context *context, int count, sqlite3_value **values) {
+  struct text text;
+  bool public;
+  (void)count;
+  if (read_text(context, values[0], &text) && uriparse_is_public(text.at, text.len, &public) == URIPARSE_OK)
+    sqlite3_result_int(context, public);
+}
+
 /* uri_is_within(uri, base) */
 static void is_within(sqlite3_context *context, int count, sqlite3_value **values) {
   struct text text, base;
@@ -798,7 +807,7 @@ static const struct {
   {"uri_host_address", 1, host_address, NULL}, {"uri_param_values", 2, param_values, NULL},
   {"uri_form_decode", 1, form_decode, NULL}, {"uri_trim_link", 1, trim_link, NULL},
   {"uri_fault_text", 1, fault_text, NULL}, {"uri_key", 1, key, NULL},
-  {"uri_normal_key", 1, normal_key, NULL}, {"uri_page_key", 1, page_key, NULL},
+  {"uri_is_public", 1, is_public, NULL},   {"uri_normal_key", 1, normal_key, NULL}, {"uri_page_key", 1, page_key, NULL},
 };
 
 __attribute__((visibility("default")))

@@ -183,7 +183,7 @@ static void print_call(int which, const char *base, size_t base_len, const char 
   static struct written to;
   const uint32_t code = call(which, base, base_len, text, len, &to);
   const char *name = names[which];
-  const bool is_answer = is_one_of(name, "equal same_origin is_normalized is_ambiguous is_within host_is_within ");
+  const bool is_answer = is_one_of(name, "equal same_origin is_normalized is_public is_ambiguous is_within host_is_within ");
   if (strcmp(name, "parse") == 0) {
     print_parts(code, &to.parts);
   } else if (strcmp(name, "is_uri") == 0) {

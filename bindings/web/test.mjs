@@ -160,7 +160,7 @@ await test("sort keys", () => {
 });
 await test("a value that is no text", () => {
   for (const value of [undefined, null, 1, true, ["a"], {}, Symbol("a")]) {
-    for (const name of ["parse", "fault", "isURI", "hash", "normalize", "origin", "escape", "decode", "formDecode", "trimLink", "isNormalized",
+    for (const name of ["parse", "fault", "isURI", "hash", "normalize", "origin", "escape", "decode", "formDecode", "trimLink", "isNormalized", "isPublic",
       "key", "isAmbiguous", "portOrDefault", "hostAddress", ...(value === null ? [] : ["pairs"])]) {
       assert.throws(() => uris[name](value), TypeError, name);
     }
@@ -363,7 +363,7 @@ const SHARED = {
   without_pairs: [uris.withoutPairs, "text", "names"], without_pair: [uris.withoutPair, "text"], host_is_within: [uris.hostIsWithin, "text", "domain"],
   is_within: [uris.isWithin, "uri", "base"], resolve: [uris.resolve, "base", "reference"], relativize: [uris.relativize, "base", "uri"],
   equal: [uris.equal, "left", "right"], compare: [uris.compare, "left", "right"], decode: [decoded, "text"],
-  same_origin: [uris.sameOrigin, "left", "right"], is_normalized: [uris.isNormalized, "text"], is_ambiguous: [uris.isAmbiguous, "segment"],
+  same_origin: [uris.sameOrigin, "left", "right"], is_normalized: [uris.isNormalized, "text"], is_public: [uris.isPublic, "text"], is_ambiguous: [uris.isAmbiguous, "segment"],
   port_or_default: [uris.portOrDefault, "text"], host_address: [(text) => spelled(uris.hostAddress(text)), "text"], hash: [uris.hash, "text"],
   pair_values: [listedValues, "text"], form_decode: [(text) => spelled(uris.formDecode(text)), "text"], trim_link: [uris.trimLink, "text"],
   encode: [uris.encode], key: [(text) => uris.key(text), "text"], page_key: [(text) => uris.key(text, "page"), "text"],

@@ -24,7 +24,7 @@ async function told(text: string): Promise<string> {
   const values_of_name: string[] = uris.pairValues(text, "a");
   const address: Uint8Array | null = uris.hostAddress(text);
   const used: number | null = uris.portOrDefault(text);
-  const is: boolean[] = [uris.sameOrigin(text, text), uris.isNormalized(uris.trimLink(text)), uris.isAmbiguous("a")];
+  const is: boolean[] = [uris.sameOrigin(text, text), uris.isNormalized(uris.trimLink(text)), uris.isPublic(text), uris.isAmbiguous("a")];
   const keys: string = uris.key(text) + uris.key(text, "normal") + uris.key(text, "page");
   const spelled: Uint8Array = uris.formDecode("a+b");
   const value: string | null = uris.pair(text, new Uint8Array([97]));

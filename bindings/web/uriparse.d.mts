@@ -90,6 +90,8 @@ export interface URIs {
   compare(left: Input, right: Input): -1 | 0 | 1;
   sameOrigin(left: Input, right: Input): boolean;
   isNormalized(text: Input): boolean;
+  /** Whether the host leads anywhere on the Internet, as far as its text says. False without a host. */
+  isPublic(text: Input): boolean;
   isWithin(uri: Input, base: Input): boolean;
   hostIsWithin(text: Input, domain: string): boolean;
   hostFlags(text: Input): HostFlags;

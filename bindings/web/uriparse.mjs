@@ -497,6 +497,11 @@ class URIs {
     return this.#truth(this.#ofOne("uriparse_is_normalized", text));
   }
 
+  /** Whether the host leads anywhere on the Internet, as far as its text says: a global address, or a name that none is taken for. */
+  isPublic(text) {
+    return this.#truth(this.#ofOne("uriparse_is_public", text));
+  }
+
   /** The port of a reference, or the default port of its scheme, or null, also without an authority. */
   portOrDefault(text) {
     const port = this.#word(this.#ofOne("uriparse_port_or_default", text)) | 0;

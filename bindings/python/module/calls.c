@@ -257,6 +257,13 @@ static PyObject *answer_is_normalized(const struct state *state, const struct te
   return *code ? NULL : PyBool_FromLong(answer);
 }
 
+static PyObject *answer_is_public(const struct state *state, const struct text *text, uint32_t *code) {
+  bool answer = false;
+  (void)state;
+  *code = uriparse_is_public(text->bytes, text->len, &answer);
+  return *code ? NULL : PyBool_FromLong(answer);
+}
+
 static PyObject *answer_is_ambiguous(const struct state *state, const struct text *text, uint32_t *code) {
   bool answer = false;
   (void)state;
@@ -300,6 +307,7 @@ ANSWER(spans, "text", OR_URI, text_fault, answer_spans)
 ANSWER(first_fault, "text", OR_URI, text_fault, answer_first_fault)
 ANSWER(is_uri, "text", OR_URI, text_fault, answer_is_uri)
 ANSWER(is_normalized, "text", OR_URI, text_fault, answer_is_normalized)
+ANSWER(is_public, "text", OR_URI, text_fault, answer_is_public)
 ANSWER(hash_of, "text", OR_URI, text_fault, answer_hash)
 ANSWER(host_flags, "text", OR_URI, text_fault, answer_host_flags)
 ANSWER(host_address, "text", OR_URI, text_fault, answer_host_address)
@@ -324,6 +332,11 @@ PyMethodDef call_methods[] = {
     METHOD("is_normalized", is_normalized,
            "is_normalized($module, /, text)\n--\n\n"
            "Whether a reference is its own normal form, as `normalize` writes it."),
+    METHOD("is_public", is_public,
+           "is_public($module, /, text)\n--\n\n"
+           "Whether the host of a reference leads anywhere on the Internet, as far as its text says: a global address, also if an\n"
+           "IPv6 address embeds it, or a name that no reader takes for an address or decodes. False without a host. DNS may answer\n"
+           "for a name with any address: check that of the connection too."),
     METHOD("hash_of", hash_of,
            "hash_of($module, /, text)\n--\n\n"
            "A hash of a reference: equal references have equal ones."),

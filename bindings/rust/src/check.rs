@@ -142,6 +142,22 @@ macro_rules! checks {
                 $crate::sys::is_normalized(self.as_str().as_bytes())
             }
 
+            /// Whether the host leads anywhere on the Internet, as far as its text says: it is a global address (RFC 6890), also if an IPv6
+            /// address embeds it, or a name that no reader takes for an address or decodes. False without a host. DNS may answer for a
+            /// name with any address: check that of the connection too.
+            ///
+            /// ```
+            /// use uriparse_rattle::UriRef;
+            ///
+            /// assert!(UriRef::parse("http://example.com/")?.is_public());
+            /// assert!(!UriRef::parse("http://[::ffff:10.0.0.1]/")?.is_public());
+            /// # Ok::<(), uriparse_rattle::Error>(())
+            /// ```
+            #[must_use]
+            pub fn is_public(&self) -> bool {
+                $crate::sys::is_public(self.as_str().as_bytes())
+            }
+
             /// Whether the host is a name whose canonical spelling is that of an IPv4 address, as `%31.2.3.4`.
             #[must_use]
             pub fn hides_address(&self) -> bool {

@@ -131,6 +131,7 @@ extern "C" {
         within: *mut bool,
     ) -> u32;
     fn uriparse_host_flags(text: *const u8, len: usize, flags: *mut u32) -> u32;
+    fn uriparse_is_public(text: *const u8, len: usize, is_public: *mut bool) -> u32;
     fn uriparse_is_ambiguous(segment: *const u8, len: usize, ambiguous: *mut bool) -> u32;
     fn uriparse_port_or_default(text: *const u8, len: usize, port: *mut i32) -> u32;
     fn uriparse_host_address(
@@ -338,6 +339,14 @@ pub(crate) fn is_normalized(text: &[u8]) -> bool {
     // SAFETY: the slice is a text, and `normalized` is writable.
     let code = unsafe { uriparse_is_normalized(text.as_ptr(), text.len(), &mut normalized) };
     code == OK && normalized
+}
+
+/// Whether a text is a reference that has a public host.
+pub(crate) fn is_public(text: &[u8]) -> bool {
+    let mut public = false;
+    // SAFETY: the slice is a text, and `public` is writable.
+    let code = unsafe { uriparse_is_public(text.as_ptr(), text.len(), &mut public) };
+    code == OK && public
 }
 
 /// The hash of a reference, or 0 for another text.

@@ -192,6 +192,7 @@ fn answer_of_one(call: &str, text: &[u8]) -> Option<Result<Bytes, Error>> {
         "port_or_default" => read(|uri| uri.port_or_default().and_then(shown)),
         "host_address" => read(address_of),
         "is_normalized" => read(|uri| shown(uri.is_normalized())),
+        "is_public" => read(|uri| shown(uri.is_public())),
         "hash" => read(hash_of),
         "is_ambiguous" => is_ambiguous(plain()).map(shown),
         "pairs" => read(pairs_of),

@@ -65,6 +65,7 @@ extern "C" {
         within: *mut bool,
     ) -> u32;
     fn uriparse_host_flags(text: *const u8, len: usize, flags: *mut u32) -> u32;
+    fn uriparse_is_public(text: *const u8, len: usize, is_public: *mut bool) -> u32;
     fn uriparse_is_ambiguous(segment: *const u8, len: usize, ambiguous: *mut bool) -> u32;
     fn uriparse_port_or_default(text: *const u8, len: usize, port: *mut i32) -> u32;
     fn uriparse_host_address(
@@ -308,6 +309,9 @@ fn check_reference(uri: UriRef<'_>, base: &str) {
     // SAFETY: as above.
     let normalized = asked(|out| unsafe { uriparse_is_normalized(a, text.len(), out) });
     assert_eq!(normalized, Ok(uri.is_normalized()), "{text}");
+    // SAFETY: as above.
+    let public = asked(|out| unsafe { uriparse_is_public(a, text.len(), out) });
+    assert_eq!(public, Ok(uri.is_public()), "{text}");
     // SAFETY: as above.
     let port = asked(|out| unsafe { uriparse_port_or_default(a, text.len(), out) });
     assert_eq!(port, Ok(uri.port_or_default().map_or(-1, i32::from)));

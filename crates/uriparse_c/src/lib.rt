@@ -44,7 +44,7 @@ ghost use Rattle.uriparse_authority.specs.declared.authority.host.Host.{Host};
 ghost use Rattle.uriparse_scheme.specs.Scheme as schemes;
 ghost use Rattle.uriparse_ffi.specs.Addresses.{address_bytes};
 ghost use Rattle.uriparse_ffi.specs.Changes.{are_wishes, wanted_in};
-ghost use Rattle.uriparse_ffi.specs.Checks.{IsHostWithin, Tells, default_port_of, host_flags, order_number, port_or_minus_one};
+ghost use Rattle.uriparse_ffi.specs.Checks.{IsHostWithin, IsPublicHost, Tells, default_port_of, host_flags, order_number, port_or_minus_one};
 ghost use Rattle.uriparse_ffi.specs.Code as spec;
 ghost use Rattle.uriparse_ffi.specs.Components.{class_of, pair_number};
 ghost use Rattle.uriparse_ffi.specs.Hash.{hash_of};
@@ -55,8 +55,8 @@ ghost use Rattle.uriparse_ffi.specs.Put.{IsPut, IsRefused, IsRelativePut};
 use uriparse_ffi::addresses::write_address;
 use uriparse_ffi::changes::{UriChanges, write_changed};
 use uriparse_ffi::checks::{
-    default_port, flags, write_host_within, write_is_ambiguous, write_is_normalized, write_order,
-    write_port, write_within,
+    default_port, flags, write_host_within, write_is_ambiguous, write_is_normalized,
+    write_is_public, write_order, write_port, write_within,
 };
 use uriparse_ffi::code::{ACCEPTED, code_of, truth_of};
 use uriparse_ffi::coding::{write_decoded, write_encoded, write_escaped, write_trimmed};
@@ -222,6 +222,18 @@ pub extern "C" fn uriparse_host_flags(text: &[u8], host: &mut u32) -> u32
     }
 }
 
+/// Writes whether the host of a reference is public. Does not allocate.
+#[unsafe(no_mangle)]
+pub extern "C" fn uriparse_is_public(text: &[u8], is_public: &mut u8) -> u32
+    // For a reference, 1 is written if it has a host that is public, else 0.
+    ensures checked { (p : Parts) → Spells text.now p → (result ≡ spec.accepted) × Tells (IsPublicHost p) is_public.new }
+
+    // A faulty text is rejected, and nothing is written.
+    ensures refused { (e : URIReferenceError) → fault text.now ≡ Some e → (result ≡ spec.code_of e) × (is_public.new ≡ is_public.old) }
+{
+    write_is_public(text, is_public)
+}
+
 /// Writes whether readers disagree on what a segment of a path names. Does not allocate.
 #[unsafe(no_mangle)]
 pub extern "C" fn uriparse_is_ambiguous(segment: &[u8], ambiguous: &mut u8) -> u32
@@ -303,12 +315,7 @@ pub extern "C" fn uriparse_normalize(text: &[u8], out: &mut [u8], needed: &mut u
 /// Writes the sort key of a reference to the buffer, in the form that the flags ask for. Does not
 /// allocate.
 #[unsafe(no_mangle)]
-pub extern "C" fn uriparse_key(
-    flags: u32,
-    text: &[u8],
-    out: &mut [u8],
-    needed: &mut usize,
-) -> u32
+pub extern "C" fn uriparse_key(flags: u32, text: &[u8], out: &mut [u8], needed: &mut usize) -> u32
     // The buffer holds the sort key, or it is too small.
     ensures written { (f : KeyForm) (p : Parts) → form_of flags ≡ Some f → Spells text.now p → IsPut (sort_key (in_form f p)) out.old out.new needed.new result }
 

@@ -5,6 +5,7 @@ use Rattle.std.specs.declared.cmp.Ordering.TheVariants.{Less, Equal, Greater}
 use Rattle.uriparse_scheme.specs.DefaultPort.{default_port}
 use Rattle.uriparse_scheme.specs.declared.scheme.Scheme.{Scheme}
 use Rattle.uriparse_scheme.specs.declared.scheme.error.SchemeError.{SchemeError}
+use Rattle.uriparse_authority.specs.Public.{IsPublic}
 use Rattle.uriparse_authority.specs.Within as host
 use Rattle.uriparse_authority.specs.declared.authority.host.Host.{Host}
 use Rattle.uriparse_reference.specs.Reference.{Parts, host_of}
@@ -22,6 +23,10 @@ order_number Greater = pos 1
 -- the reference has a host, and it is the domain or within it
 abbrev pub IsHostWithin : Parts → Host → Type 0
 IsHostWithin p d = (h : Host) × (host_of p ≡ Some h) × host.IsWithin h d
+
+-- the reference has a host, and it is public
+abbrev pub IsPublicHost : Parts → Type 0
+IsPublicHost p = (h : Host) × (host_of p ≡ Some h) × IsPublic h
 
 -- this number if it holds
 abbrev pub flag : ℕ → Bool → ℕ

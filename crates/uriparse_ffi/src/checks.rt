@@ -1,5 +1,5 @@
 //! The order of references, whether a text is normalized, whether a URI or a host is within another one,
-//! what a host or a segment may be taken for, and ports. Nothing here allocates.
+//! what a host or a segment may be taken for, whether a host is public, and ports. Nothing here allocates.
 ghost use Rattle.std.specs.Prelude.{◌≡◌, ◌+◌, Err, IsTrue, ◌↔◌, Ok, Some, false, is_some, true};
 ghost use Rattle.uriparse_text.specs.Ambiguous.{is_ambiguous};
 ghost use Rattle.uriparse_text.specs.Segment as segments;
@@ -15,7 +15,7 @@ ghost use Rattle.uriparse_reference.specs.Normal.{normal};
 ghost use Rattle.uriparse_reference.specs.Ports as ports;
 ghost use Rattle.uriparse_reference.specs.Reference.{Parts, Spells, host_of, print};
 ghost use Rattle.uriparse.specs.Within.{IsWithin};
-ghost use Rattle.uriparse_ffi.specs.Checks.{IsHostWithin, Tells, default_port_of, host_flags, order_number, port_or_minus_one};
+ghost use Rattle.uriparse_ffi.specs.Checks.{IsHostWithin, IsPublicHost, Tells, default_port_of, host_flags, order_number, port_or_minus_one};
 ghost use Rattle.uriparse_ffi.specs.Code as spec;
 
 use crate::code::{ACCEPTED, IN_BASE, base_code, of_host, of_path, truth_of, uri_code};
@@ -168,6 +168,31 @@ pub fn write_host_within(text: &[u8], domain: &[u8], within: &mut u8) -> u32
 {
     match view(text) {
         Ok(view) => write_host_within_of(&view, domain, within),
+        Err(code) => code,
+    }
+}
+
+/// Whether the host of a reference is public.
+fn is_host_public(view: &ReferenceView<'_>) -> bool
+    ensures { IsTrue result ↔ IsPublicHost view.now.parts }
+{
+    match view.host() {
+        Some(host) => host.is_public(),
+        None => false,
+    }
+}
+
+/// Writes whether the host of the reference that a text spells is public, or returns the code of the
+/// text's error.
+pub fn write_is_public(text: &[u8], is_public: &mut u8) -> u32
+    ensures checked { (p : Parts) → Spells text.now p → (result ≡ spec.accepted) × Tells (IsPublicHost p) is_public.new }
+    ensures refused { (e : URIReferenceError) → fault text.now ≡ Some e → (result ≡ spec.code_of e) × (is_public.new ≡ is_public.old) }
+{
+    match view(text) {
+        Ok(view) => {
+            *is_public = truth_of(is_host_public(&view));
+            ACCEPTED
+        }
         Err(code) => code,
     }
 }

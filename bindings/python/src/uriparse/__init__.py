@@ -28,7 +28,7 @@ except ImportError as _error:
 from ._errors import IN_BASE, NO_ROOM, Code, Component, URIError, error_text
 # methods.tsv: imports
 from ._uriparse import (compare, decode, default_port, equal, form_decode, hash_of, host_is_within, is_ambiguous,
-                        is_normalized, is_uri, is_within, key, normal_key, normalize, origin, page_key, pair,
+                        is_normalized, is_public, is_uri, is_within, key, normal_key, normalize, origin, page_key, pair,
                         pair_values, pairs, parse, port_or_default, relativize, resolve, same_origin, trim_link,
                         with_appended_pair, with_pair)
 # methods.tsv: end
@@ -40,10 +40,10 @@ __all__ = [
     "resolve_many", "without_pair", "without_pairs"]
 # methods.tsv: names
 __all__ += ["compare", "decode", "default_port", "equal", "escape", "first_fault", "form_decode", "hash_of",
-            "host_address", "host_flags", "host_is_within", "is_ambiguous", "is_normalized", "is_uri", "is_within",
-            "key", "normal_key", "normalize", "origin", "page_key", "pair", "pair_values", "pairs", "parse",
-            "port_or_default", "relativize", "resolve", "same_origin", "spans", "trim_link", "with_appended_pair",
-            "with_pair"]
+            "host_address", "host_flags", "host_is_within", "is_ambiguous", "is_normalized", "is_public", "is_uri",
+            "is_within", "key", "normal_key", "normalize", "origin", "page_key", "pair", "pair_values", "pairs",
+            "parse", "port_or_default", "relativize", "resolve", "same_origin", "spans", "trim_link",
+            "with_appended_pair", "with_pair"]
 # methods.tsv: end
 __version__ = "0.4.0"
 if _uriparse.version != __version__:
@@ -372,6 +372,10 @@ class URI(_uriparse.Compared):
     def is_normalized(self) -> bool:
         """Whether it is its own normal form."""
         return is_normalized(self)
+
+    def is_public(self) -> bool:
+        """Whether the host leads anywhere on the Internet, as far as its text says."""
+        return is_public(self)
 
     def origin(self: _URI) -> Optional[_URI]:
         """The origin, or None if it has none."""
