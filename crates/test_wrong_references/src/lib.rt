@@ -46,6 +46,7 @@ use uriparse_text::query::Query;
 pub mod builders;
 pub mod changes;
 pub mod owned;
+pub mod pairs;
 
 /// Reads a scheme, which is looked up in the table of registered ones.
 pub fn read_scheme(bytes: &[u8]) -> Result<Scheme<'_>, SchemeError>

@@ -1,7 +1,8 @@
 //! The pairs of the query of a URI or a relative reference: RFC 3986, section 3.4.
-ghost use Rattle.std.specs.Prelude.{◌≡◌, MatchResult};
+ghost use Rattle.std.specs.Prelude.{◌≡◌, ◌∷◌, [], IfOk, IsOk, MatchResult, None, map};
+ghost use Rattle.std.specs.List.{filter};
 ghost use Rattle.std.specs.Option.{option_copied};
-ghost use Rattle.uriparse_text.specs.Pairs.{encoded_pair, pairs, sorted_pairs, with_appended, with_pair, without_names};
+ghost use Rattle.uriparse_text.specs.Pairs.{decoded_pair, encoded_pair, is_named, pairs, sorted_pairs, with_appended, with_pair, without_names};
 ghost use Rattle.uriparse_reference.specs.PairEdits as spec;
 
 use super::ReferenceOf;
@@ -33,7 +34,10 @@ impl<'r, K: ReferenceKind> ReferenceOf<'r, K> {
         name: &[u8],
         value: Option<&[u8]>,
     ) -> Result<(), AllocError>
-        ensures { MatchResult result (λ _. self.new ≡ spec.with_pairs self.old (with_pair name.now (encoded_pair (name.now, option_copied value.entry)) (spec.pairs_of self.old))) (λ _. self.new ≡ self.old) }
+        ensures pairs { MatchResult result (λ _. self.new ≡ spec.with_pairs self.old (with_pair name.now (encoded_pair (name.now, option_copied value.entry)) (spec.pairs_of self.old))) (λ _. self.new ≡ self.old) }
+
+        // One pair of the result has the name. Decoded, it is the name and the value.
+        ensures back { IfOk result (λ _. map decoded_pair (filter (is_named name.now) (spec.pairs_of self.new)) ≡ (name.now, option_copied value.entry) ∷ []) }
     {
         self.reference.set_pair(alloc, name, value)
     }
@@ -55,7 +59,10 @@ impl<'r, K: ReferenceKind> ReferenceOf<'r, K> {
     /// query itself if no pair is left. Allocates once, or not at all without a query. If memory runs
     /// out, the value is unchanged.
     pub fn remove_pairs_named(&mut self, alloc: Global, names: &Query<'_>) -> Result<(), AllocError>
-        ensures { MatchResult result (λ _. self.new ≡ spec.with_pairs self.old (without_names (pairs names.now) (spec.pairs_of self.old))) (λ _. self.new ≡ self.old) }
+        ensures pairs { MatchResult result (λ _. self.new ≡ spec.with_pairs self.old (without_names (pairs names.now) (spec.pairs_of self.old))) (λ _. self.new ≡ self.old) }
+
+        // Without a query nothing changes.
+        ensures takes_no_memory { self.old.query ≡ None → IsOk result × (self.new ≡ self.old) }
     {
         self.reference.remove_pairs_named(alloc, names)
     }
@@ -63,7 +70,10 @@ impl<'r, K: ReferenceKind> ReferenceOf<'r, K> {
     /// Sorts the query's pairs by their names, as [`Query::sorted_pairs`] does. Allocates, but not
     /// without a query. If memory runs out, the value is unchanged.
     pub fn sort_pairs(&mut self, alloc: Global) -> Result<(), AllocError>
-        ensures { MatchResult result (λ _. self.new ≡ spec.with_pairs self.old (sorted_pairs (spec.pairs_of self.old))) (λ _. self.new ≡ self.old) }
+        ensures pairs { MatchResult result (λ _. self.new ≡ spec.with_pairs self.old (sorted_pairs (spec.pairs_of self.old))) (λ _. self.new ≡ self.old) }
+
+        // Without a query nothing changes.
+        ensures takes_no_memory { self.old.query ≡ None → IsOk result × (self.new ≡ self.old) }
     {
         self.reference.sort_pairs(alloc)
     }

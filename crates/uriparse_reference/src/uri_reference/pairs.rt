@@ -1,7 +1,8 @@
 //! The pairs of the query of a reference: RFC 3986, section 3.4.
-ghost use Rattle.std.specs.Prelude.{◌≡◌, ◌∷◌, [], IfOk, MatchResult};
+ghost use Rattle.std.specs.Prelude.{◌≡◌, ◌∷◌, [], IfOk, IsOk, MatchResult, None, Ok, map};
+ghost use Rattle.std.specs.List.{filter};
 ghost use Rattle.std.specs.Option.{option_copied};
-ghost use Rattle.uriparse_text.specs.Pairs.{encoded_pair, pairs, pairs_left, sorted_pairs, with_appended, with_pair, without_names};
+ghost use Rattle.uriparse_text.specs.Pairs.{decoded_pair, encoded_pair, is_named, pairs, pairs_left, sorted_pairs, with_appended, with_pair, without_names};
 ghost use Rattle.uriparse_reference.specs.PairEdits as spec;
 
 use super::URIReference;
@@ -14,7 +15,8 @@ fn query_of_pair(
     name: &[u8],
     value: Option<&[u8]>,
 ) -> Result<Query<'static>, AllocError>
-    ensures { IfOk result (λ q. pairs q ≡ encoded_pair (name.now, option_copied value.entry) ∷ []) }
+    ensures pairs { IfOk result (λ q. pairs q ≡ encoded_pair (name.now, option_copied value.entry) ∷ []) }
+    ensures back { IfOk result (λ q. map decoded_pair (filter (is_named name.now) (pairs q)) ≡ (name.now, option_copied value.entry) ∷ []) }
 {
     Query::from_pairs(alloc, &[(name, value)])
 }
@@ -26,7 +28,8 @@ pub(super) fn query_with(
     name: &[u8],
     value: Option<&[u8]>,
 ) -> Result<Query<'static>, AllocError>
-    ensures { IfOk result (λ q. pairs q ≡ with_pair name.now (encoded_pair (name.now, option_copied value.entry)) (pairs_left query.now)) }
+    ensures pairs { IfOk result (λ q. pairs q ≡ with_pair name.now (encoded_pair (name.now, option_copied value.entry)) (pairs_left query.now)) }
+    ensures back { IfOk result (λ q. map decoded_pair (filter (is_named name.now) (pairs q)) ≡ (name.now, option_copied value.entry) ∷ []) }
 {
     match query {
         Some(query) => query.with_pair(alloc, name, value),
@@ -55,7 +58,8 @@ pub(super) fn query_without(
     alloc: Global,
     names: &Query<'_>,
 ) -> Result<Option<Query<'static>>, AllocError>
-    ensures { IfOk result (λ o. pairs_left o ≡ without_names (pairs names.now) (pairs_left query.now)) }
+    ensures pairs { IfOk result (λ o. pairs_left o ≡ without_names (pairs names.now) (pairs_left query.now)) }
+    ensures takes_no_memory { query.now ≡ None → result ≡ Ok None }
 {
     match query {
         Some(query) => query.without_pairs_named(alloc, names),
@@ -115,7 +119,10 @@ impl<'r> URIReference<'r> {
         name: &[u8],
         value: Option<&[u8]>,
     ) -> Result<(), AllocError>
-        ensures { MatchResult result (λ _. self.new ≡ spec.with_pairs self.old (with_pair name.now (encoded_pair (name.now, option_copied value.entry)) (spec.pairs_of self.old))) (λ _. self.new ≡ self.old) }
+        ensures pairs { MatchResult result (λ _. self.new ≡ spec.with_pairs self.old (with_pair name.now (encoded_pair (name.now, option_copied value.entry)) (spec.pairs_of self.old))) (λ _. self.new ≡ self.old) }
+
+        // One pair of the result has the name. Decoded, it is the name and the value.
+        ensures back { IfOk result (λ _. map decoded_pair (filter (is_named name.now) (spec.pairs_of self.new)) ≡ (name.now, option_copied value.entry) ∷ []) }
     {
         let query = query_with(&self.query, alloc, name, value)?;
         self.put_query(Some(query));
@@ -155,7 +162,10 @@ impl<'r> URIReference<'r> {
     /// assert_eq!(reference.to_string(alloc)?.as_str(), "/a?q=2#f");
     /// ```
     pub fn remove_pairs_named(&mut self, alloc: Global, names: &Query<'_>) -> Result<(), AllocError>
-        ensures { MatchResult result (λ _. self.new ≡ spec.with_pairs self.old (without_names (pairs names.now) (spec.pairs_of self.old))) (λ _. self.new ≡ self.old) }
+        ensures pairs { MatchResult result (λ _. self.new ≡ spec.with_pairs self.old (without_names (pairs names.now) (spec.pairs_of self.old))) (λ _. self.new ≡ self.old) }
+
+        // Without a query nothing changes.
+        ensures takes_no_memory { self.old.query ≡ None → IsOk result × (self.new ≡ self.old) }
     {
         let left = query_without(&self.query, alloc, names)?;
         self.put_query(left);
@@ -171,7 +181,10 @@ impl<'r> URIReference<'r> {
     /// assert_eq!(reference.to_string(alloc)?.as_str(), "/a?a&b=2&z=1");
     /// ```
     pub fn sort_pairs(&mut self, alloc: Global) -> Result<(), AllocError>
-        ensures { MatchResult result (λ _. self.new ≡ spec.with_pairs self.old (sorted_pairs (spec.pairs_of self.old))) (λ _. self.new ≡ self.old) }
+        ensures pairs { MatchResult result (λ _. self.new ≡ spec.with_pairs self.old (sorted_pairs (spec.pairs_of self.old))) (λ _. self.new ≡ self.old) }
+
+        // Without a query nothing changes.
+        ensures takes_no_memory { self.old.query ≡ None → IsOk result × (self.new ≡ self.old) }
     {
         let Some(query) = &self.query else {
             return Ok(());

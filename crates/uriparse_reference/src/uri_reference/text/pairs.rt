@@ -1,7 +1,8 @@
 //! The pairs of the query of a reference in a text that it owns: RFC 3986, section 3.4.
-ghost use Rattle.std.specs.Prelude.{◌≡◌, IfOk, MatchResult};
+ghost use Rattle.std.specs.Prelude.{◌≡◌, ◌∷◌, [], IfOk, IsOk, MatchResult, None, map};
+ghost use Rattle.std.specs.List.{filter};
 ghost use Rattle.std.specs.Option.{option_copied};
-ghost use Rattle.uriparse_text.specs.Pairs.{encoded_pair, pairs, with_appended, with_pair, without_names};
+ghost use Rattle.uriparse_text.specs.Pairs.{decoded_pair, encoded_pair, is_named, pairs, with_appended, with_pair, without_names};
 ghost use Rattle.uriparse_reference.specs.PairEdits as spec;
 ghost use Rattle.uriparse_reference.specs.TextEdits.{with_query};
 
@@ -46,6 +47,9 @@ impl ReferenceText {
     ) -> Result<(), AllocError>
         ensures text { MatchResult result (λ _. self.new.text ≡ with_query self.old.text (spec.query_of (with_pair name.now (encoded_pair (name.now, option_copied value.entry)) (spec.pairs_of self.old.parts)))) (λ _. self.new ≡ self.old) }
         ensures parts { IfOk result (λ _. self.new.parts ≡ spec.with_pairs self.old.parts (with_pair name.now (encoded_pair (name.now, option_copied value.entry)) (spec.pairs_of self.old.parts))) }
+
+        // One pair of the result has the name. Decoded, it is the name and the value.
+        ensures back { IfOk result (λ _. map decoded_pair (filter (is_named name.now) (spec.pairs_of self.new.parts)) ≡ (name.now, option_copied value.entry) ∷ []) }
     {
         let query = query_with(&Held(self.as_view().query()).0, alloc, name, value)?;
         self.set_query(alloc, Some(query))
@@ -86,6 +90,7 @@ impl ReferenceText {
     pub fn remove_pairs_named(&mut self, alloc: Global, names: &Query<'_>) -> Result<(), AllocError>
         ensures text { MatchResult result (λ _. self.new.text ≡ with_query self.old.text (spec.query_of (without_names (pairs names.now) (spec.pairs_of self.old.parts)))) (λ _. self.new ≡ self.old) }
         ensures parts { IfOk result (λ _. self.new.parts ≡ spec.with_pairs self.old.parts (without_names (pairs names.now) (spec.pairs_of self.old.parts))) }
+        ensures takes_no_memory { self.old.parts.query ≡ None → IsOk result }
     {
         let query = query_without(&Held(self.as_view().query()).0, alloc, names)?;
         self.set_query(alloc, query)
