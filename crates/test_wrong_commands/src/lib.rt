@@ -4,7 +4,7 @@
 
 ghost use Rattle.std.specs.Prelude.{◌≡◌, ◌∷◌, [], Some, codes};
 ghost use Rattle.test_wrong_commands.specs.Lines.{aligned, appended, of_lines, of_second_fields};
-ghost use Rattle.uri_commands.specs.Help.{version};
+ghost use Rattle.uri_commands.specs.Help.{summary, version};
 ghost use Rattle.uri_commands.specs.Output as spec;
 ghost use Rattle.uri_commands.specs.Tasks.{LinesEndWith};
 ghost use Rattle.uri_commands.specs.declared.get.Part.TheVariants as part;
@@ -205,6 +205,34 @@ pub fn print_page<O: Write, E: Write>(alloc: Global, out: &mut O, err: &mut E) -
     ensures { spec.Ends (spec.HelpsOn (codes "parse")) (O.contents out.old) (O.contents out.new) result }
 {
     run(alloc, &["help", "parse"], out, err)
+}
+
+/// Prints the page on `parse`, as the only other word asks for help.
+pub fn print_page_after_name<O: Write, E: Write>(alloc: Global, out: &mut O, err: &mut E) -> u8
+    ensures { spec.Ends (spec.HelpsOn (codes "parse")) (O.contents out.old) (O.contents out.new) result }
+{
+    run(alloc, &["parse", "--help"], out, err)
+}
+
+/// Prints `--help` as a reference, since it isn't the only other word.
+pub fn print_help_as_input<O: Write, E: Write>(alloc: Global, out: &mut O, err: &mut E) -> u8
+    ensures { spec.Ends (spec.Parses (codes "--help")) (O.contents out.old) (O.contents out.new) result }
+{
+    run(alloc, &["parse", "--", "--help"], out, err)
+}
+
+/// Prints the commands.
+pub fn print_commands<O: Write, E: Write>(alloc: Global, out: &mut O, err: &mut E) -> u8
+    ensures { spec.Ends (spec.PrintsBytes summary) (O.contents out.old) (O.contents out.new) result }
+{
+    run(alloc, &["-h"], out, err)
+}
+
+/// Prints the version by the short word.
+pub fn print_version_shortly<O: Write, E: Write>(alloc: Global, out: &mut O, err: &mut E) -> u8
+    ensures { spec.Ends (spec.PrintsBytes version) (O.contents out.old) (O.contents out.new) result }
+{
+    run(alloc, &["-V"], out, err)
 }
 
 /// Prints the version.

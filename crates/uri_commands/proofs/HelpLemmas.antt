@@ -1,23 +1,20 @@
 -- What `uri help` prints.
-use Rattle.std.proofs.Common.{ℕ, ◌≡◌, ◌+◌, zero, suc, true, false, cond, List, [], ◌∷◌, ◌++◌, drop, flat_map, Option, Some, None, Result, Ok, Err, refl, sym, ap, subst, ◌∙◌}
+use Rattle.std.proofs.Common.{ℕ, ◌≡◌, ◌+◌, zero, suc, true, false, cond, List, [], ◌∷◌, drop, Option, Some, None, refl, sym, ap, subst, ◌∙◌}
 use Rattle.std.specs.Borrow.{Bor}
-use Rattle.std.specs.Io.KnownBytes.{Appends}
 use Rattle.std.specs.List.{find, slice_get}
 use Rattle.std.specs.Option.{option_map}
-use Rattle.std.specs.Prelude.{MatchOption, OnOk, bytes_eq}
-use Rattle.std.proofs.KnownBytes.{Appends-trans}
-use Rattle.std.proofs.lemmas.List.{append_assoc, append-nil, drop_more}
+use Rattle.std.specs.Prelude.{MatchOption, bytes_eq}
+use Rattle.std.proofs.lemmas.List.{drop_more}
 use Rattle.std.proofs.lemmas.Option.{get_or_from_slice_get, slice_get_within}
 use Rattle.uri_commands.specs.Help.{Topic, page_on, topics}
 use Rattle.uri_commands.specs.Output.{HelpsOn, Printed, Unknown}
-use Rattle.uri_commands.proofs.OutputLemmas.{Known}
 
 -- a topic as the code has it
 abbrev Told : Type 0
-Told = Bor (Bor (List ℕ) × Bor (List ℕ) × Bor (List ℕ))
+Told = Bor (Bor (List ℕ) × Bor (List ℕ))
 
 abbrev told : Told → Topic
-told t = record { name = t.now.0.now; summary = t.now.1.now; page = t.now.2.now }
+told t = record { name = t.now.0.now; page = t.now.1.now }
 
 next_left : {X : Type 0} (xs : List X) (i : ℕ) (x : X) → slice_get xs i ≡ Some x → drop i xs ≡ x ∷ drop (i + 1) xs
 next_left xs i x is =
@@ -36,34 +33,6 @@ topics_left place r t reads is = next_left topics place (told t) (sym reads ∙ 
 topics_end : (place : ℕ) (r : Option Told) → option_map told r ≡ slice_get topics place → r ≡ None → drop place topics ≡ []
 topics_end place r reads is = none_left topics place (sym reads ∙ ap (option_map told) is)
 
--- ---- help
-
--- the summaries of these topics
-abbrev pub summaries_of : List Topic → List ℕ
-summaries_of ts = flat_map (λ t. t.summary) ts
-
--- the summaries of the topics before this place were printed
-abbrev pub PrintsBefore : ℕ → Known → Known → Type 0
-PrintsBefore place a b = (bytes : List ℕ) × Appends a b bytes × (bytes ++ summaries_of (drop place topics) ≡ summaries_of topics)
-
-pub one_more : (place : ℕ) (r : Option Told) (t : Told) (a b c : Known) → PrintsBefore place a b → option_map told r ≡ slice_get topics place → r ≡ Some t
-    → Appends b c t.now.1.now → PrintsBefore (place + 1) a c
-one_more place r t a b c before reads is now =
-    let summary = t.now.1.now in
-    let rest = summaries_of (drop (place + 1) topics) in (
-      before.0 ++ summary,
-      Appends-trans a b c before.0 summary before.1 now,
-      append_assoc before.0 summary rest ∙ sym (ap (λ ts. before.0 ++ summaries_of ts) (topics_left place r t reads is)) ∙ before.2,
-    )
-
-pub all_printed : {E : Type 0} (place : ℕ) (r : Option Told) (last : List ℕ) (done : Result (Unit {0}) E) (a b c : Known) → PrintsBefore place a b
-    → option_map told r ≡ slice_get topics place → r ≡ None → OnOk done (Appends b c last) → OnOk done (Appends a c (summaries_of topics ++ last))
-all_printed place r last (Err e) a b c before reads is now = tt
-all_printed place r last (Ok u) a b c before reads is now =
-    let whole : before.0 ≡ summaries_of topics =
-    sym (append-nil before.0) ∙ sym (ap (λ ts. before.0 ++ summaries_of ts) (topics_end place r reads is)) ∙ before.2 in
-    Appends-trans a b c (summaries_of topics) last (subst (Appends a b) whole before.1) now
-
 -- ---- help NAME
 
 -- the first topic of this name among these
@@ -76,7 +45,7 @@ other_name name place r t reads is other before =
     sym (ap (named name) (topics_left place r t reads is) ∙ ap (λ b. cond b (Some (told t)) (named name (drop (place + 1) topics))) other) ∙ before
 
 pub same_name : (name : List ℕ) (place : ℕ) (r : Option Told) (t : Told) → option_map told r ≡ slice_get topics place → r ≡ Some t
-    → bytes_eq t.now.0.now name ≡ true → named name (drop place topics) ≡ named name topics → page_on name ≡ Some t.now.2.now
+    → bytes_eq t.now.0.now name ≡ true → named name (drop place topics) ≡ named name topics → page_on name ≡ Some t.now.1.now
 same_name name place r t reads is same before =
     ap (option_map (λ x. x.page))
     (sym before ∙ ap (named name) (topics_left place r t reads is) ∙ ap (λ b. cond b (Some (told t)) (named name (drop (place + 1) topics))) same)

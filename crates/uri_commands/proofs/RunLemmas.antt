@@ -109,9 +109,8 @@ plain_many name x y z more =
     (either (bytes_eq name (codes "host-within")) _ _ _ refl
     (either (bytes_eq name (codes "file")) _ _ _ refl
     (either (bytes_eq name (codes "help")) _ _ _ refl
-    (either (bytes_eq name (codes "--help")) _ _ _ refl
     (either (bytes_eq name (codes "--version")) _ _ _ refl
-    refl))))))))))))))))))
+    refl)))))))))))))))))
 
 many : (mode : Mode) (name x y z : List ℕ) (more : List (List ℕ)) → AnswersTo mode name (x ∷ y ∷ z ∷ more) Unknown
 many modes.Plain name x y z more = plain_many name x y z more

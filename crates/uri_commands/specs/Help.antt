@@ -1,5 +1,5 @@
 -- What `uri help` and `uri --version` print.
-use Rattle.std.specs.Prelude.{ℕ, List, [], ◌∷◌, ◌++◌, flat_map, bytes_eq, Option}
+use Rattle.std.specs.Prelude.{ℕ, List, [], ◌∷◌, bytes_eq, Option}
 use Rattle.std.specs.List.{find}
 use Rattle.std.specs.Option.{option_map}
 use Rattle.uri_commands.specs.declared.columns.TheConstants.{ABOUT_ALIGN as align, ABOUT_COLUMN as column, ABOUT_APPEND as append, ABOUT_NULL as null}
@@ -11,7 +11,7 @@ use Rattle.uri_commands.specs.declared.escape.TheConstants.{ABOUT as escape, ABO
 use Rattle.uri_commands.specs.declared.explain.TheConstants.{ABOUT as explain}
 use Rattle.uri_commands.specs.declared.file.TheConstants.{ABOUT as file}
 use Rattle.uri_commands.specs.declared.get.TheConstants.{ABOUT as get}
-use Rattle.uri_commands.specs.declared.help.TheConstants.{ABOUT as help, VERSION, VERSION_SUMMARY}
+use Rattle.uri_commands.specs.declared.help.TheConstants.{ABOUT as help, SUMMARY, VERSION}
 use Rattle.uri_commands.specs.declared.json.TheConstants.{ABOUT as json}
 use Rattle.uri_commands.specs.declared.lines.TheConstants.{ABOUT as lines}
 use Rattle.uri_commands.specs.declared.normalize.TheConstants.{ABOUT as normalize, ABOUT_DROP_DEFAULT_PORT as drop_default_port}
@@ -24,18 +24,17 @@ use Rattle.uri_commands.specs.declared.resolve.TheConstants.{ABOUT as resolve}
 use Rattle.uri_commands.specs.declared.tail.TheConstants.{ABOUT as tail}
 use Rattle.uri_commands.specs.declared.within.TheConstants.{ABOUT as within, ABOUT_HOST as host}
 
--- what `uri help` says of a command or of an option
+-- a command or an option, and the page on it
 pub record Topic : Type 0 where
   pub name : List ℕ
-  pub summary : List ℕ
   pub page : List ℕ
 
 -- the bytes of a constant
 abbrev Text : Type 0
 Text = record { now : List ℕ }
 
-abbrev pub about : Text × Text × Text → Topic
-about t = record { name = t.0.now; summary = t.1.now; page = t.2.now }
+abbrev pub about : Text × Text → Topic
+about t = record { name = t.0.now; page = t.1.now }
 
 -- the topics, in the order of `uri help`
 unfoldable pub topics : List Topic
@@ -43,19 +42,19 @@ topics =
     about parse
     ∷ about tail
     ∷ about get
-    ∷ about normalize
-    ∷ about equal
-    ∷ about resolve
-    ∷ about relativize
-    ∷ about decode
-    ∷ about encode
-    ∷ about escape
     ∷ about pairs
     ∷ about pair
+    ∷ about equal
     ∷ about within
     ∷ about host
-    ∷ about file
+    ∷ about normalize
+    ∷ about resolve
+    ∷ about relativize
     ∷ about edit
+    ∷ about file
+    ∷ about escape
+    ∷ about encode
+    ∷ about decode
     ∷ about help
     ∷ about json
     ∷ about quiet
@@ -69,9 +68,9 @@ topics =
     ∷ about null
     ∷ []
 
--- help: a summary of each topic, and of `--version`
-abbrev pub summaries : List ℕ
-summaries = flat_map (λ t. t.summary) topics ++ VERSION_SUMMARY.now
+-- help: the commands and the options
+abbrev pub summary : List ℕ
+summary = SUMMARY.now
 
 -- help NAME: the page of the topic of this name, if there is one
 abbrev pub page_on : List ℕ → Option (List ℕ)

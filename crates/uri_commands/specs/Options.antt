@@ -1,7 +1,7 @@
 -- The options among the words of a command.
-use Rattle.std.specs.Prelude.{ℕ, zero, suc, ◌^◌, nat_lt, Bool, true, false, ◌==◌, ◌&&◌, not, List, [], ◌∷◌, bytes_eq, codes, if◌then◌else◌, Option, Some, None, unwrap_or}
+use Rattle.std.specs.Prelude.{ℕ, zero, suc, ◌^◌, nat_lt, Bool, true, false, ◌==◌, ◌&&◌, ◌||◌, not, List, [], ◌∷◌, bytes_eq, codes, if◌then◌else◌, Option, Some, None, unwrap_or}
 use Rattle.std.specs.Char.{is_ascii_digit}
-use Rattle.std.specs.List.{list_all}
+use Rattle.std.specs.List.{list_all, list_any}
 use Rattle.std.specs.Option.{option_and_then, option_map}
 use Rattle.std.specs.Str.Parse.{digits_value, without_leading_plus}
 use Rattle.uri_commands.specs.Lines.{newline}
@@ -100,9 +100,42 @@ request o (name ∷ words) =
     else if bytes_eq name (codes "help") then record { options = o; command = name ∷ words }
     else record { options = (read o words).0; command = name ∷ unmarked (read o words).1 }
 
+-- the same of words before which there is no option
+abbrev pub asked_in_full : List (List ℕ) → Request
+asked_in_full words = request (read none words).0 (read none words).1
+
+-- ---- help and the version in other words
+
+-- the word asks for help
+abbrev pub is_help : List ℕ → Bool
+is_help word = bytes_eq word (codes "-h") || bytes_eq word (codes "--help")
+
+-- the names of the commands, in the order of `uri help`
+abbrev pub commands : List (List ℕ)
+commands =
+    codes "parse" ∷ codes "tail" ∷ codes "get" ∷ codes "pairs" ∷ codes "pair" ∷ codes "equal" ∷ codes "within" ∷ codes "host-within"
+    ∷ codes "normalize" ∷ codes "resolve" ∷ codes "relativize" ∷ codes "edit" ∷ codes "file" ∷ codes "escape" ∷ codes "encode" ∷ codes "decode"
+    ∷ codes "help" ∷ []
+
+abbrev pub is_command : List ℕ → Bool
+is_command name = list_any (bytes_eq name) commands
+
+-- The command that these words are a synonym of, if they are one: `-h` and `--help` of `help`, `-V` of `--version`, and a command's name with
+-- `-h` or `--help` as the only other word of `help` on it.
+abbrev pub synonym : List (List ℕ) → Option (List (List ℕ))
+synonym (word ∷ []) =
+    if is_help word then Some (codes "help" ∷ [])
+    else if bytes_eq word (codes "-V") then Some (codes "--version" ∷ [])
+    else None
+synonym (word ∷ next ∷ []) =
+    if is_help next && is_command word then Some (codes "help" ∷ word ∷ [])
+    else if is_help word then Some (codes "help" ∷ next ∷ [])
+    else None
+synonym words = None
+
 -- what the words that follow the program's name ask for: any words ask for something
 abbrev pub asked : List (List ℕ) → Request
-asked words = request (read none words).0 (read none words).1
+asked words = unwrap_or (option_map (λ command. record { options = none; command = command }) (synonym words)) (asked_in_full words)
 
 -- ---- words without options
 

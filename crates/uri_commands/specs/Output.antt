@@ -45,7 +45,7 @@ use Rattle.uriparse.specs.declared.uri.error.URIError.{URIError}
 use Rattle.uriparse.specs.declared.uri.error.URIError.TheVariants as uris
 use Rattle.uri_commands.specs.Columns.{tab}
 use Rattle.uri_commands.specs.Edits.{Edit, all_made, are_readable, edits_of, steps_made}
-use Rattle.uri_commands.specs.Help.{page_on, summaries, version}
+use Rattle.uri_commands.specs.Help.{page_on, summary, version}
 use Rattle.uri_commands.specs.Json.{kind_name, object}
 use Rattle.uri_commands.specs.Lines.{newline}
 use Rattle.uri_commands.specs.declared.commands.Task.{Task}
@@ -404,7 +404,7 @@ abbrev pub HelpsOn : List ℕ → Answer → Type 0
 HelpsOn name a = MatchOption (page_on name) (a ≡ Unknown) (λ page. a ≡ Printed page)
 
 abbrev pub Helps : List (List ℕ) → Answer → Type 0
-Helps [] = PrintsBytes summaries
+Helps [] = PrintsBytes summary
 Helps (name ∷ []) = HelpsOn name
 Helps texts = IsUnknown
 
@@ -445,7 +445,6 @@ AnswersNamed name texts =
     when bytes_eq name (codes "host-within") then OnTexts HostWithin texts else
     when bytes_eq name (codes "file") then OnText Files texts else
     when bytes_eq name (codes "help") then Helps texts else
-    when bytes_eq name (codes "--help") then OnNothing (PrintsBytes summaries) texts else
     when bytes_eq name (codes "--version") then OnNothing (PrintsBytes version) texts else
     IsUnknown
 
@@ -494,7 +493,7 @@ abbrev pub printing : List (List ℕ)
 printing =
     codes "parse" ∷ codes "tail" ∷ codes "get" ∷ codes "normalize" ∷ codes "equal" ∷ codes "resolve" ∷ codes "relativize"
     ∷ codes "decode" ∷ codes "encode" ∷ codes "escape" ∷ codes "pairs" ∷ codes "pair" ∷ codes "file" ∷ codes "edit"
-    ∷ codes "help" ∷ codes "--help" ∷ codes "--version" ∷ []
+    ∷ codes "help" ∷ codes "--version" ∷ []
 
 -- whether the command of this name prints something
 abbrev pub prints : Mode → List ℕ → Bool

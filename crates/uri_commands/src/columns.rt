@@ -15,16 +15,13 @@ use uriparse_text::internal::{split_at_delimiter, without_delimiter};
 pub static ABOUT_ALIGN: Topic = (
     "--align",
     "\
-uri --align --lines COMMAND
-                      one line for each line, an empty one if it is rejected
-",
-    "\
-uri --lines --align COMMAND
+Prints exactly one line for each line of standard input.
 
-Prints exactly one line for each line of the standard input, so that the output
-can be put beside the input, as by paste: an empty line for a rejected one. It
-is reported as without the option. Every command that --lines takes, but those
-with --quiet. For the command's words see uri help --lines.
+Usage: uri --lines --align COMMAND
+
+Use it to join output and input, as paste does. The line is empty if the input
+is rejected, or not within. Rejected lines are reported as without the option.
+It goes with every command that --lines takes, except those with --quiet.
 
 Exit status: 0 on success, 1 if a line is rejected or the work ends early, 2 on
 a usage error.
@@ -41,24 +38,18 @@ prints
 pub static ABOUT_COLUMN: Topic = (
     "--column",
     "\
-uri --column K --lines COMMAND
-                      each line has fields with tabs between them: reads the
-                      K-th, and prints the line with the result in its place
-",
-    "\
-uri --lines --column K COMMAND
-uri --lines --column K --append COMMAND
-uri --lines --append COMMAND
+Reads the K-th tab-separated field of each line.
 
-A line has fields with tabs between them. Reads the K-th, which counts from 1,
-and prints the line with the result in its place, or with --append after its
-last field; the other fields stay as they are. equal reads the K-th and the
-next. A field that is rejected gives an empty result, and a line with too few
-fields is printed as it is; both are reported. Exactly one line is printed for
-each, as with --align. Without --column the whole line is the text.
+Usage: uri --lines --column K COMMAND
+       uri --lines --column K --append COMMAND
 
-`get` takes several parts, with commas between them, and prints as many fields.
-One that is absent is empty.
+Use it for a column of a table. K counts from 1. It prints the line with the
+result in the place of the field, or with --append after the last field. The
+other fields stay as they are. equal reads the K-th field and the next, and its
+result replaces both. get with several parts prints as many fields.
+
+Exactly one line is printed for each. A rejected field gives an empty result,
+and a line with too few fields is printed as it is; both are reported.
 
 Exit status: 0 on success, 1 if a line is rejected or the work ends early, 2 on
 a usage error.
@@ -73,16 +64,14 @@ prints
 pub static ABOUT_APPEND: Topic = (
     "--append",
     "\
-uri --append --lines COMMAND
-                      each line with the result as one more field
-",
-    "\
-uri --lines --append COMMAND
-uri --lines --column K --append COMMAND
+Prints each line with the result after it, as one more field.
 
-Prints each line of the standard input as it is, a tab, and the result for the
-whole line, or with --column for its K-th field. Rejected input gives an empty
-result, and is reported. Exactly one line is printed for each.
+Usage: uri --lines --append COMMAND
+       uri --lines --column K --append COMMAND
+
+Use it to keep the input next to its result. A tab precedes the result, which is
+the one for the whole line, or with --column for its K-th field. Rejected input
+gives an empty result, and is reported. Exactly one line is printed for each.
 
 Exit status: 0 on success, 1 if a line is rejected or the work ends early, 2 on
 a usage error.
@@ -97,17 +86,15 @@ prints
 pub static ABOUT_NULL: Topic = (
     "--null",
     "\
-uri --null --lines COMMAND, uri -0 --lines COMMAND
-                      lines end with a NUL byte, in and out
-",
-    "\
-uri --lines --null COMMAND
-uri --lines -0 COMMAND
+Ends lines with a NUL byte instead of a newline, in input and output.
 
-Lines end with a NUL byte instead of a newline, in the input and in the output,
-as for sort -z and xargs -0. A newline is a byte like any other then: text with
-one is rejected, but escape makes %0A of it. Reports end with a newline. Goes
-with every command that --lines takes, and with --align, --column and --append.
+Usage: uri --lines --null COMMAND
+       uri --lines -0 COMMAND
+
+Use it with sort -z, xargs -0 and find -print0. A newline is part of its line
+then: escape makes %0A of it, and the other commands reject the line. Reports
+still end with a newline. It goes with every command that --lines takes, and
+with --align, --column and --append.
 
 Exit status: 0 on success, 1 if a line is rejected or the work ends early, 2 on
 a usage error.

@@ -1,4 +1,4 @@
-//! The table of the commands: what `uri help` says of each, the words that it takes, and how it
+//! The table of the commands: the pages of `uri help NAME`, the words that each takes, and how it
 //! runs on the texts among its words and on each line of an input.
 
 ghost use Rattle.std.specs.Prelude.{◌≡◌, ◌<◌, ◌∷◌, [], IfSome, false, map, slice_get, true};
@@ -40,25 +40,25 @@ use uriparse::{Host, URI, URIReference, URIView};
 #[tactic(auto, unfolding(crate::specs::Help::topics))]
 pub fn topic(place: usize) -> Option<&'static Topic>
     ensures bound { IfSome result (λ _. place < 27) }
-    ensures topic { option_map (λ t. record { name = t.now.0.now; summary = t.now.1.now; page = t.now.2.now }) result ≡ slice_get topics place }
+    ensures topic { option_map (λ t. record { name = t.now.0.now; page = t.now.1.now }) result ≡ slice_get topics place }
 {
     match place {
         0 => Some(&parse::ABOUT),
         1 => Some(&tail::ABOUT),
         2 => Some(&get::ABOUT),
-        3 => Some(&normalize::ABOUT),
-        4 => Some(&equal::ABOUT),
-        5 => Some(&resolve::ABOUT),
-        6 => Some(&relativize::ABOUT),
-        7 => Some(&decode::ABOUT),
-        8 => Some(&encode::ABOUT),
-        9 => Some(&escape::ABOUT),
-        10 => Some(&pairs::ABOUT),
-        11 => Some(&pair::ABOUT),
-        12 => Some(&within::ABOUT),
-        13 => Some(&within::ABOUT_HOST),
-        14 => Some(&file::ABOUT),
-        15 => Some(&edit::ABOUT),
+        3 => Some(&pairs::ABOUT),
+        4 => Some(&pair::ABOUT),
+        5 => Some(&equal::ABOUT),
+        6 => Some(&within::ABOUT),
+        7 => Some(&within::ABOUT_HOST),
+        8 => Some(&normalize::ABOUT),
+        9 => Some(&resolve::ABOUT),
+        10 => Some(&relativize::ABOUT),
+        11 => Some(&edit::ABOUT),
+        12 => Some(&file::ABOUT),
+        13 => Some(&escape::ABOUT),
+        14 => Some(&encode::ABOUT),
+        15 => Some(&decode::ABOUT),
         16 => Some(&help::ABOUT),
         17 => Some(&json::ABOUT),
         18 => Some(&quiet::ABOUT),
@@ -166,7 +166,6 @@ fn run_one_word<O: Write>(mode: Mode, name: &str, out: &mut O) -> Result<(), Fai
 {
     match (mode, name) {
         (Mode::Plain, "help") => Ok(help(out)?),
-        (Mode::Plain, "--help") => Ok(help(out)?),
         (Mode::Plain, "--version") => Ok(version(out)?),
         _ => Err(Failure::Usage),
     }

@@ -13,16 +13,15 @@ use uriparse_text::internal::Held;
 pub static ABOUT: Topic = (
     "decode",
     "\
-uri decode TEXT       the bytes that a query or a segment stands for
-",
-    "\
-uri decode TEXT
+Prints the bytes that a component stands for.
 
-Prints the bytes that a query stands for, or a segment or another component that
-`uri encode` made, and a newline. The bytes of escapes are printed as they are,
-control characters and broken UTF-8 too. A `+` is a `+`.
+Usage: uri decode TEXT
 
-Exit status: 0 on success, 1 if the text is no query, 2 on a usage error.
+Use it to read what uri encode made, or a segment, a query or one of its pairs.
+The bytes of escapes are printed as they are, control characters and invalid
+UTF-8 too. A `+` is a `+`.
+
+Exit status: 0 on success, 1 if TEXT can't be a query, 2 on a usage error.
 
 Example:
     uri decode 'caf%C3%A9%2Fa?b'

@@ -31,38 +31,34 @@ use uriparse_text::internal::Held;
 pub static ABOUT: Topic = (
     "edit",
     "\
-uri edit TEXT EDIT..  the reference with all edits made, from the left;
-                      an edit is scheme V, authority V, username V, password V,
-                      host V, port V, path V, query V, fragment V, drop-scheme,
-                      drop-authority, drop-host, drop-userinfo, drop-port,
-                      drop-default-port, drop-query, drop-fragment,
-                      set-pair NAME VALUE, append-pair NAME VALUE,
-                      drop-pair NAME, sort-pairs or normalize
-",
-    "\
-uri edit TEXT EDIT..
-uri --lines edit EDIT..
+Prints a reference with components or pairs of its query changed.
 
-Prints the reference with all edits made, from the left. scheme V, authority V,
-username V, password V, host V, port V, path V, query V and fragment V set a
-part; V is read as such a part, so %2F is an escape in it. drop-scheme,
-drop-authority, drop-query and drop-fragment remove one, drop-userinfo the user
-name and the password, drop-port the port, drop-default-port a port that is the
-scheme's default one, and drop-host is drop-authority. host V makes an authority
-if there is none; a user name, a password or a port needs a host.
+Usage: uri edit TEXT EDIT..
+       uri --lines edit EDIT..
 
-set-pair NAME VALUE sets the query's pair of this name, in the place of the
-first of them, and append-pair NAME VALUE adds a pair. NAME and VALUE are data:
-each byte that a pair can't have becomes an escape. drop-pair NAME leaves out
-all pairs of this name, where NAME is a query's text: %26 is & and utm_* is each
-name that begins with utm_, but %2A is a star. Names are compared by the bytes
-that they stand for. Without a pair left there is no query. sort-pairs sorts the
-pairs by their names. normalize makes the normal form.
+Use it to change links, or to strip tracking parameters. Edits are made from the
+left. Each EDIT is one of
 
-With --lines the edits are made on each line of the standard input.
+    scheme V, authority V, path V, query V, fragment V,
+    username V, password V, host V, port V,
+    drop-scheme, drop-authority, drop-query, drop-fragment,
+    drop-host, drop-userinfo, drop-port, drop-default-port,
+    set-pair NAME VALUE, append-pair NAME VALUE, drop-pair NAME,
+    sort-pairs, normalize
 
-Exit status: 0 on success, 1 if a text or an edit is rejected, 2 on a usage
-error.
+V is the string of the component, so %2F is an escape in it. host V makes an
+authority if there is none; a user name, a password and a port need a host.
+drop-host is drop-authority, drop-userinfo removes user name and password, and
+drop-default-port a port that is the scheme's default one.
+
+set-pair sets the first pair of this name, or adds one, and removes the others.
+append-pair adds a pair after the others. NAME and VALUE are data, and are
+percent-encoded. drop-pair removes all pairs of this name; its NAME is the
+string of a query: %26 is &, utm_* is each name that begins with utm_, and %2A
+is a star. Names are compared decoded. If no pair is left, no query is.
+sort-pairs sorts by name, and pairs of one name keep their order.
+
+Exit status: 0 on success, 1 if TEXT or an edit is rejected, 2 on a usage error.
 
 Example:
     uri edit 'http://h/a?q#f' scheme https port 8080 drop-query fragment g

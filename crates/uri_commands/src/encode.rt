@@ -14,18 +14,16 @@ use uriparse::{Fragment, Password, Query, Segment, Username};
 pub static ABOUT: Topic = (
     "encode",
     "\
-uri encode KIND TEXT  the text as a segment, query, fragment, username or
-                      password
-",
-    "\
-uri encode KIND TEXT
+Prints any text as one component.
 
-Prints a component that stands for the bytes of the text. KIND is segment,
-query, fragment, username or password. A byte that the component can't have is
-written as an escape: a space as %20, and a slash in a segment as %2F. A `%` is
-always %25, so encode a text once. A query keeps its `&` and `=`.
+Usage: uri encode KIND TEXT
 
-Exit status: 0 on success, 1 if the text is not UTF-8, 2 on a usage error.
+Use it to put data into a URI. KIND is segment, query, fragment, username or
+password. Each byte that the component can't have is percent-encoded: a space as
+%20, a slash in a segment as %2F. A `%` always becomes %25, so encode once. A
+query keeps its `&` and `=`.
+
+Exit status: 0 on success, 1 if TEXT is not UTF-8, 2 on a usage error.
 
 Example:
     uri encode segment 'a/b c'

@@ -17,22 +17,21 @@ use uriparse_text::internal::{split_at_delimiter, without_delimiter};
 pub static ABOUT: Topic = (
     "equal",
     "\
-uri equal A B         `equal` or `different`
-",
-    "\
-uri equal A B
-uri --quiet equal A B
-uri --lines equal
-uri --lines --quiet equal
+Prints `equal` or `different` for two references.
 
-Prints `equal` if the two references are printed alike, but for escapes of
-unreserved characters and the case of scheme, host and escapes; else prints
-`different`. A host name differs from every address. Dot segments count:
-normalize first. With --quiet the status alone reports the result. With --lines
-a line has the two texts, separated by a tab.
+Usage: uri equal A B
+       uri --quiet equal A B
+       uri --lines equal
+       uri --lines --quiet equal
 
-Exit status: 0 on success, 1 if a text is no reference, 2 on a usage error,
-3 with --quiet if two references differ.
+Use it to find links that differ only in spelling. References are equal if they
+differ at most in the case of scheme, host and escapes, and in escapes that
+aren't needed, such as %7E for ~. A host name differs from every address. Dot
+segments count, so normalize first. With --lines a line has two references,
+separated by a tab.
+
+Exit status: 0 on success, 1 if A or B is not a reference, 2 on a usage error,
+3 with --quiet if they differ.
 
 Example:
     uri equal 'http://h/%7ea' 'HTTP://H/~a'

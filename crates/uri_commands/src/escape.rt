@@ -12,25 +12,23 @@ use uriparse::{escape_invalid, trim_link};
 pub static ABOUT: Topic = (
     "escape",
     "\
-uri escape TEXT       any text as a reference, with escapes for what it
-                      can't have
-",
-    "\
-uri escape TEXT
-uri --trim escape TEXT
-uri --lines escape
-uri --lines --trim escape
+Prints any text as a reference, with escapes for what it can't have.
 
-Prints any text as a reference: each byte that a reference can't have
-where it stands becomes an escape, such as a space, a letter with an accent, or
-a bracket outside of an authority. The rest stays, escapes too; a `%` without
-two hexadecimal digits after it becomes %25. A reference stays as it is.
-An authority keeps its `:`, `@`, `[` and `]`, so a text with an invalid host or
-port is still rejected by the other commands. Lines are bytes of any encoding: a
-carriage return becomes %0D. For links with white space or brackets round them
-see uri help --trim.
+Usage: uri escape TEXT
+       uri --trim escape TEXT
+       uri --lines escape
+       uri --lines --trim escape
 
-Exit status: 0 on success, 1 if the text is not UTF-8, 2 on a usage error.
+Use it to mend links as people write them. Each byte that a reference can't have
+where it stands becomes an escape: a space, a letter with an accent, a bracket
+outside of an authority. A `%` without two hexadecimal digits becomes %25. The
+rest stays, escapes too, so a reference stays as it is.
+
+An authority keeps its `:`, `@`, `[` and `]`, so other commands still reject a
+wrong host or port. Lines may be in any encoding; a carriage return becomes %0D.
+To remove white space or brackets around a link see uri help --trim.
+
+Exit status: 0 on success, 1 if TEXT is not UTF-8, 2 on a usage error.
 
 Example:
     uri escape 'http://h/a b?q=100%#[x]'
@@ -42,19 +40,17 @@ prints
 pub static ABOUT_TRIM: Topic = (
     "--trim",
     "\
-uri --trim escape TEXT
-                      the text without white space and <> round it, escaped
-",
-    "\
-uri --trim escape TEXT
-uri --lines --trim escape
+Removes white space and brackets around a link before it is escaped.
 
-Takes off what is round a link, and prints the rest as `uri escape` does: white
-space at both ends, so also a carriage return at the end of a line; then a pair
-of angle brackets, a URL: that follows the first, and the white space at the
-ends of what they hold. One bracket alone stays, and is escaped.
+Usage: uri --trim escape TEXT
+       uri --lines --trim escape
 
-Exit status: 0 on success, 1 if the text is not UTF-8, 2 on a usage error.
+Use it for links in prose and mail (RFC 3986, appendix C). Removed are white
+space at both ends, so also a carriage return at the end of a line; then one
+pair of angle brackets with or without URL: after the first, and white space at
+the ends of what they hold. One bracket alone stays, and is escaped.
+
+Exit status: 0 on success, 1 if TEXT is not UTF-8, 2 on a usage error.
 
 Example:
     uri --trim escape ' <URL:http://h/a b> '

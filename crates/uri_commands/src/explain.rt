@@ -10,27 +10,26 @@ use uriparse::{AuthorityError, URI, URIError, URIReference, URIReferenceError};
 pub static ABOUT: Topic = (
     "--explain",
     "\
-uri --explain parse TEXT, uri --explain resolve BASE REF
-                      the same, but a rejected text is shown with a caret
-                      under the byte that its error is about
-",
-    "\
-uri --explain parse TEXT
-uri --explain --json parse TEXT
-uri --explain resolve BASE REF
-uri --lines --explain parse
-uri --lines --explain resolve BASE
+Shows where rejected input is wrong.
 
-Explains on the standard error why a text is rejected, in three lines: the text,
-a caret under the byte that its error is about, and the error with the component
-and the number of bytes before that byte. An address of a wrong form, too large
-a port and a path with a colon that is taken for a scheme's are wrong where they
-begin. Of several faults the error is the one of the first component; a path's
-own bytes come before such a colon. Of a long text 72 bytes are shown; a byte
-that is not printable ASCII is shown as a dot. With resolve the third line says
-which text is wrong, with --lines on which line.
+Usage: uri --explain parse TEXT
+       uri --explain --json parse TEXT
+       uri --explain resolve BASE REF
+       uri --lines --explain parse
+       uri --lines --explain resolve BASE
 
-Exit status: 0 on success, 1 if a text is rejected, 2 on a usage error.
+Use it to mend a URI. Three lines on standard error show the input, a caret
+under the wrong byte, and the error with its component and the number of bytes
+before the wrong one. With resolve the third line says which input is wrong,
+with --lines on which line it is.
+
+If several components are invalid, the first is reported. In a path, an invalid
+byte is reported before a colon in the first segment. An invalid address, a port
+that is too large, and such a colon are reported where the component begins.
+Long input is cut to 72 bytes around the wrong one, and a byte that is not
+printable ASCII is shown as a dot.
+
+Exit status: 0 on success, 1 if input is rejected, 2 on a usage error.
 
 Example:
     uri --explain parse 'http://h/a b' 2>&1

@@ -13,27 +13,27 @@ use uriparse::file::{from_path, to_path};
 pub static ABOUT: Topic = (
     "file",
     "\
-uri file PATH         the URI of a file's absolute path
-uri get file URI      the path of the file that the URI names
-",
-    "\
-uri file PATH
-uri get file URI
+Prints the URI of a file, and of such a URI the file's path.
 
-The first prints the file URI of an absolute path, with an empty host: RFC 8089.
-Each byte that the path of a URI can't have becomes an escape, a `%` too. The
-path stays as it is: nothing is looked up, and `.`, `..` and empty names remain.
+Usage: uri file PATH
+       uri get file URI
 
-The second prints the bytes of the path that a file URI names, and a newline.
-Its host is absent, empty or localhost. A user name, another host, a port, a
-query, a fragment, a %2F and a %00 are rejected.
+Use it to hand a path to a program that takes URIs, and back (RFC 8089). PATH is
+absolute. Nothing is looked up, and `.`, `..` and empty names remain. Each byte
+that the path of a URI can't have is percent-encoded, a `%` too.
 
-Exit status: 0 on success, 1 if a path or a URI is rejected, 2 on a usage error.
+uri get file prints the path that a file URI names. Its host is absent, empty or
+localhost. A user name, another host, a port, a query, a fragment, a %2F and a
+%00 are rejected.
+
+Exit status: 0 on success, 1 if PATH or URI is rejected, 2 on a usage error.
 
 Example:
     uri file '/tmp/a b%.txt'
+    uri get file 'file:///tmp/a%20b%25.txt'
 prints
     file:///tmp/a%20b%25.txt
+    /tmp/a b%.txt
 ",
 );
 

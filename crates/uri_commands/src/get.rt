@@ -21,26 +21,26 @@ use uriparse_text::internal::Held;
 pub static ABOUT: Topic = (
     "get",
     "\
-uri get PART TEXT     that part alone: scheme, authority, username, password,
-                      host, port, path, query, fragment or origin
-",
-    "\
-uri get PART[,PART..] TEXT
-uri --lines get PART[,PART..]
+Prints components of a reference.
 
-Prints one part of the reference: scheme, authority, username, password, host,
-port, path, query, fragment or origin. An IPv6 address has its brackets. Several
-parts are printed with tabs between them; then, and with --lines, an absent part
-is empty, and the status is 0. For `uri get file URI` see uri help file.
+Usage: uri get PART[,PART..] TEXT
+       uri --lines get PART[,PART..]
+
+Use it in scripts, to take out a host or a path. PART is scheme, authority,
+username, password, host, port, path, query, fragment or origin. Several parts
+are separated by tabs; then, and with --lines, an absent part is empty and the
+status is 0. For uri get file URI see uri help file.
+
+A host keeps its case, and an IPv6 address its brackets. A scheme is printed in
+lower case if it is registered, a port without leading zeros, and an IPv6
+address as RFC 5952 writes it. An empty port is absent.
 
 The origin is scheme, host and port, by which RFC 6454 compares URIs, in one
 spelling: scheme and host in lower case, with no escape that isn't needed, and
 without a port that is the scheme's default one. It is absent without a host,
-or if neither the URI names a port nor its scheme has a default one, as file.
-`uri get authority` prints the authority as it is given, but a port without
-leading zeros, no empty port, and an IPv6 address as RFC 5952 writes it.
+and if neither the URI has a port nor its scheme a default one, such as file.
 
-Exit status: 0 on success, 1 if a text is no reference, 2 on a usage error,
+Exit status: 0 on success, 1 if TEXT is not a reference, 2 on a usage error,
 3 if the part is absent; nothing is printed then.
 
 Example:

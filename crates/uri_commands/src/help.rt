@@ -14,37 +14,66 @@ use std::io::Write;
 pub static ABOUT: Topic = (
     "help",
     "\
-uri help              these lines
-uri help COMMAND      more on a command or on an option, with an example
-",
-    "\
-uri help
-uri help COMMAND
-uri --help
+Prints the commands and options, or more on one of them.
 
-Prints the commands, or more on one of them or on one of the options --json,
---quiet, --explain, --drop-default-port, --trim, --lines, --align, --column,
---append and --null. Options come before the command or after it, in any order,
-and before its texts. A text that is spelled as one of them follows --, which
-ends them.
+Usage: uri help, uri -h, uri --help
+       uri help COMMAND, uri COMMAND --help, uri COMMAND -h
+       uri help OPTION
+       uri --version, uri -V
+
+Use it to look up a command. After a command, --help asks for help only if it is
+the only other word. Otherwise it is input, and so is what follows --.
+
+Options stand before the command or after it, in any order, but before its
+input. -- ends them, so that input may be spelled as an option.
 
 Exit status: 0 on success, 2 on a usage error. Every command ends with 1 if
 memory runs out, a read or a write fails, or an argument is not UTF-8.
 
 Example:
-    uri parse --help
+    uri decode --help | head -n 1
+    uri parse -- --help
     uri normalize --lines < /dev/null
-    uri parse -- --lines
 prints
+    Prints the bytes that a component stands for.
     --help
     path=--help
-    --lines
-    path=--lines
 ",
 );
 
-/// The last line of `uri help`: `--version` has no page.
-const VERSION_SUMMARY: &str = "uri --version         the version\n";
+/// What `uri help` prints.
+const SUMMARY: &str = "\
+uri reads, compares, edits and resolves URIs and references (RFC 3986).
+Usage: uri [OPTION..] COMMAND TEXT..     More, with an example: uri help COMMAND
+
+Read      parse TEXT              the reference, then each of its components
+          tail TEXT               the same of a path, query and fragment alone
+          get PART,.. TEXT        components, the origin, or the path of a file
+          pairs TEXT              the pairs of the query, a line each
+          pair NAME TEXT          the decoded value of a query parameter
+Compare   equal A B               equal or different
+          within BASE URI         status 0 if URI is below BASE, 3 if not
+          host-within DOMAIN REF  status 0 if the host is in DOMAIN, 3 if not
+Make      normalize TEXT          the normal form
+          resolve BASE REF        the target of the reference
+          relativize BASE URI     the reference that leads from BASE to URI
+          edit TEXT EDIT..        the reference with components or pairs changed
+          file PATH               the URI of a file
+Escape    escape TEXT             any text as a reference
+          encode KIND TEXT        any text as one component
+          decode TEXT             the bytes that a component stands for
+Options   --json                  parse: an object
+          --quiet                 parse, equal: the status alone
+          --explain               parse, resolve: where the input is wrong
+          --drop-default-port     normalize: without the scheme's default port
+          --trim                  escape: without white space or <> around it
+Lines     --lines                 the command on each line of standard input
+          --column K, --append    on its K-th field; adds the result to the line
+          --align, --null, -0     a line for each; lines that end with NUL
+Other     help, --version         short: -h, -V; also COMMAND --help
+Examples  uri get host https://example.com/a
+          uri --lines normalize < links | sort -u
+";
 
 /// The version of the library and the program, and the kit that its proofs were made with.
 const VERSION: &str = "\
@@ -61,14 +90,9 @@ pub fn version<O: Write>(out: &mut O) -> io::Result<()>
 
 /// Prints the commands and the options.
 pub fn help<O: Write>(out: &mut O) -> io::Result<()>
-    ensures { OnOk result (Appends (O.contents out.old) (O.contents out.new) help.summaries) }
+    ensures { OnOk result (Appends (O.contents out.old) (O.contents out.new) help.summary) }
 {
-    let mut place = 0;
-    'topics: while let Some((_, summary, _)) = topic(place) {
-        out.write_all(summary.as_bytes())?;
-        place += 1;
-    }
-    out.write_all(VERSION_SUMMARY.as_bytes())
+    out.write_all(SUMMARY.as_bytes())
 }
 
 /// Prints the page on the command or the option of this name.
@@ -76,7 +100,7 @@ pub fn help_on<O: Write>(name: &str, out: &mut O) -> Result<(), Failure>
     ensures { spec.Does (spec.HelpsOn name.now) (O.contents out.old) (O.contents out.new) result }
 {
     let mut place = 0;
-    'topics: while let Some((topic, _, page)) = topic(place) {
+    'topics: while let Some((topic, page)) = topic(place) {
         if *topic == name {
             return Ok(out.write_all(page.as_bytes())?);
         }

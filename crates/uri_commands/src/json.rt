@@ -33,20 +33,19 @@ use uriparse_text::internal::Held;
 pub static ABOUT: Topic = (
     "--json",
     "\
-uri --json parse TEXT the reference as a JSON object
-",
-    "\
-uri --json parse TEXT
-uri --lines --json parse
+Prints the reference as a JSON object on one line.
 
-Prints the reference as a JSON object, on one line. Its keys are, in this order,
-text, scheme, username, password, host, host_kind, port, path, query, fragment
-and segments. The text is as given. The host_kind is ipv4, ipv6, ipvfuture or
-name, the port is a number, and segments are the parts of the path between its
-slashes. What is absent is null, what is empty is \"\". With --lines the option
-changes nothing, since parse prints objects then.
+Usage: uri --json parse TEXT
+       uri --lines --json parse
 
-Exit status: 0 on success, 1 if a text is no reference, 2 on a usage error.
+Use it to hand components to programs that read JSON. The members are, in this
+order, text, scheme, username, password, host, host_kind, port, path, query,
+fragment and segments. The text is the input. The host_kind is ipv4, ipv6,
+ipvfuture or name, the port is a number, and segments are the parts of the path
+between its slashes. What is absent is null, what is empty is \"\". With --lines
+the option changes nothing, since parse prints objects then.
+
+Exit status: 0 on success, 1 if TEXT is not a reference, 2 on a usage error.
 
 Example:
     uri --json parse '//h/a?' | tr ',' '\\n'

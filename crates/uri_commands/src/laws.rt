@@ -1,10 +1,11 @@
 //! Laws of commands: their words, and examples of what they print. Each function does nothing: its contract is the law.
 
-ghost use Rattle.std.specs.Prelude.{◌≡◌, ◌<◌, ◌^◌, ◌∷◌, [], List, Some, bytes_eq, codes, decimal, false, flat_map, map, suc, true, ℕ};
+ghost use Rattle.std.specs.Prelude.{◌≡◌, ◌<◌, ◌^◌, ◌∷◌, ◌++◌, [], List, Some, bytes_eq, codes, decimal, false, flat_map, map, suc, true, ℕ};
 ghost use Rattle.uri_commands.specs.Help.{topics};
-ghost use Rattle.uri_commands.specs.Options.{asked, column_of, is_plain, none, starts_plain};
+ghost use Rattle.uri_commands.specs.Options.{asked, column_of, commands, is_command, is_help, is_plain, none, starts_plain};
 ghost use Rattle.uri_commands.specs.Output as spec;
 ghost use Rattle.uri_commands.specs.declared.get.Part.TheVariants as part;
+ghost use Rattle.uri_commands.specs.declared.options.Mode.TheVariants as modes;
 
 pub use crate::json::laws::{examples_of_objects, one_object, one_string};
 use uriparse::laws::one_reading;
@@ -14,6 +15,11 @@ use uriparse::laws::one_reading;
 pub fn words_without_options()
     ensures plain { (name : List ℕ) (texts : List (List ℕ)) → is_plain name ≡ true → starts_plain texts ≡ true → asked (name ∷ texts) ≡ record { options = none; command = name ∷ texts } }
     ensures marked { (name : List ℕ) (texts : List (List ℕ)) → is_plain name ≡ true → bytes_eq name (codes "help") ≡ false → asked (name ∷ codes "--" ∷ texts) ≡ record { options = none; command = name ∷ texts } }
+{}
+
+/// A command with `--help` or `-h` as the only other word asks for the page on it, which [`pages_of_help`] has.
+pub fn help_on_a_command()
+    ensures { (name word : List ℕ) → is_command name ≡ true → is_help word ≡ true → asked (name ∷ word ∷ []) ≡ record { options = none; command = codes "help" ∷ name ∷ [] } }
 {}
 
 /// The `K` of `--column K` counts from 1, and is any number that a field can have.
@@ -30,6 +36,16 @@ pub fn examples_of_words()
     ensures options { asked (codes "--lines" ∷ codes "get" ∷ codes "--column" ∷ codes "2" ∷ codes "host" ∷ [])
         ≡ record { options = record none { reads_lines = true; columns = Some (record { first = Some 1; appends = false }) }; command = codes "get" ∷ codes "host" ∷ [] } }
     ensures no_column { asked (codes "--column" ∷ codes "0" ∷ []) ≡ record { options = none; command = codes "--column" ∷ codes "0" ∷ [] } }
+    ensures short_help { asked (codes "-h" ∷ []) ≡ record { options = none; command = codes "help" ∷ [] } }
+    ensures long_help_on_an_option { asked (codes "--help" ∷ codes "--lines" ∷ []) ≡ record { options = none; command = codes "help" ∷ codes "--lines" ∷ [] } }
+    ensures short_version { asked (codes "-V" ∷ []) ≡ record { options = none; command = codes "--version" ∷ [] } }
+    ensures help_after_a_command { asked (codes "parse" ∷ codes "--help" ∷ []) ≡ record { options = none; command = codes "help" ∷ codes "parse" ∷ [] } }
+    ensures short_help_after_a_command { asked (codes "edit" ∷ codes "-h" ∷ []) ≡ record { options = none; command = codes "help" ∷ codes "edit" ∷ [] } }
+    ensures help_after_no_command { asked (codes "print" ∷ codes "--help" ∷ []) ≡ record { options = none; command = codes "print" ∷ codes "--help" ∷ [] } }
+    ensures help_as_input { asked (codes "parse" ∷ codes "--" ∷ codes "--help" ∷ []) ≡ record { options = none; command = codes "parse" ∷ codes "--help" ∷ [] } }
+    ensures help_among_input { asked (codes "equal" ∷ codes "--help" ∷ codes "a" ∷ []) ≡ record { options = none; command = codes "equal" ∷ codes "--help" ∷ codes "a" ∷ [] } }
+    ensures help_after_an_option { asked (codes "--json" ∷ codes "parse" ∷ codes "--help" ∷ [])
+        ≡ record { options = record none { mode = modes.Json }; command = codes "parse" ∷ codes "--help" ∷ [] } }
     ensures ended_options { asked (codes "--lines" ∷ codes "--" ∷ codes "parse" ∷ codes "--json" ∷ [])
         ≡ record { options = record none { reads_lines = true }; command = codes "parse" ∷ codes "--json" ∷ [] } }
 {}
@@ -39,13 +55,11 @@ pub fn answer_to_normalize()
     ensures { (text : List ℕ) (answer : spec.Answer) → spec.Answers none (codes "normalize" ∷ text ∷ []) answer → spec.Normalizes text answer }
 {}
 
-/// The names that `uri help` has a page on, in its order.
+/// There is a page on each command, and on each option, in the order of `uri help`.
 #[tactic(auto, unfolding(crate::specs::Help::topics))]
 pub fn pages_of_help()
-    ensures { map (λ t. t.name) topics ≡ codes "parse" ∷ codes "tail" ∷ codes "get" ∷ codes "normalize" ∷ codes "equal" ∷ codes "resolve" ∷ codes "relativize"
-        ∷ codes "decode" ∷ codes "encode" ∷ codes "escape" ∷ codes "pairs" ∷ codes "pair" ∷ codes "within" ∷ codes "host-within" ∷ codes "file" ∷ codes "edit"
-        ∷ codes "help" ∷ codes "--json" ∷ codes "--quiet" ∷ codes "--explain" ∷ codes "--drop-default-port" ∷ codes "--trim" ∷ codes "--lines"
-        ∷ codes "--align" ∷ codes "--column" ∷ codes "--append" ∷ codes "--null" ∷ [] }
+    ensures { map (λ t. t.name) topics ≡ commands ++ (codes "--json" ∷ codes "--quiet" ∷ codes "--explain" ∷ codes "--drop-default-port" ∷ codes "--trim"
+        ∷ codes "--lines" ∷ codes "--align" ∷ codes "--column" ∷ codes "--append" ∷ codes "--null" ∷ []) }
 {}
 
 /// Examples of the manual, in its order.

@@ -29,47 +29,40 @@ use uriparse_text::internal::{Is, first};
 pub static ABOUT: Topic = (
     "--lines",
     "\
-uri --lines parse, uri --lines normalize, uri --lines resolve BASE,
-uri --lines relativize BASE, uri --lines get PART[,PART..],
-uri --lines pair NAME, uri --lines edit EDIT.., uri --lines equal,
-uri --lines within BASE, uri --lines host-within DOMAIN,
-uri --lines escape, uri --lines --trim escape,
-uri --lines --drop-default-port normalize
-                      the same for each line of the standard input; parse
-                      prints JSON objects, within the lines that are within
-",
-    "\
-uri --lines parse
-uri --lines normalize
-uri --lines resolve BASE
-uri --lines relativize BASE
-uri --lines get PART[,PART..]
-uri --lines pair NAME
-uri --lines edit EDIT..
-uri --lines equal
-uri --lines within BASE
-uri --lines host-within DOMAIN
-uri --lines escape
-uri --lines --trim escape
-uri --lines --drop-default-port normalize
-uri --lines --quiet parse
-uri --lines --quiet equal
-uri --lines --explain parse
-uri --lines --explain resolve BASE
+Runs the command on each line of standard input.
 
-Runs the command for each line of the standard input, and prints one line for
-each, in order; within and host-within print the lines that are within. A line
-is one text, or for equal two, separated by a tab; parse prints JSON objects;
-get with several parts prints them with tabs between them. pairs is left out,
-since it prints any number of lines: pair prints the value of one.
+Usage: uri --lines parse
+       uri --lines normalize
+       uri --lines resolve BASE
+       uri --lines relativize BASE
+       uri --lines get PART[,PART..]
+       uri --lines pair NAME
+       uri --lines edit EDIT..
+       uri --lines equal
+       uri --lines within BASE
+       uri --lines host-within DOMAIN
+       uri --lines escape
+       uri --lines --trim escape
+       uri --lines --drop-default-port normalize
+       uri --lines --quiet parse
+       uri --lines --quiet equal
+       uri --lines --explain parse
+       uri --lines --explain resolve BASE
 
-Lines are bytes and of any length, and end with a newline alone: a carriage
-return is part of the text, which is rejected for it, or with escape is escaped,
-or taken off by --trim. A rejected line is reported as
-`line N: ERROR: TEXT` on the standard error, prints nothing else, and the work
-goes on. TEXT is cut to 72 bytes around the error, and a byte that is not
-printable ASCII is shown as a dot. The work ends early if memory runs out, or a
-read or a write fails.
+Use it for many links at once. It prints one line for each, in order; parse
+prints one JSON object a line, and within and host-within print the lines that
+are within, as grep does. A line is one input, or for equal two, separated by a
+tab. Other commands don't take the option.
+
+A rejected line prints nothing and is reported on standard error as
+`line N: ERROR: TEXT`. The work goes on, and the status is 1 at the end. TEXT is
+cut to 72 bytes around the error, and a byte that is not printable ASCII is
+shown as a dot. The work ends early if memory runs out, or a read or a write
+fails.
+
+Lines are bytes of any length, and end with a newline alone. A carriage return
+is part of its line: escape makes %0D of it, --trim removes it at an end, and
+the other commands reject the line.
 
 For a line of output for each line see uri help --align, and for lines of fields
 uri help --column.

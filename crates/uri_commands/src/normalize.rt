@@ -15,19 +15,19 @@ use uriparse::{BufferError, ReferenceView, URIReference};
 pub static ABOUT: Topic = (
     "normalize",
     "\
-uri normalize TEXT    the reference's normal form
-",
-    "\
-uri normalize TEXT
-uri --drop-default-port normalize TEXT
-uri --lines normalize
-uri --lines --drop-default-port normalize
+Prints the normal form of a reference.
 
-Prints the normal form of the reference. Scheme and host are in lower case, an
-escape stands only where it is needed and has upper-case digits, and dot
-segments are removed. For the option see uri help --drop-default-port.
+Usage: uri normalize TEXT
+       uri --drop-default-port normalize TEXT
+       uri --lines normalize
+       uri --lines --drop-default-port normalize
 
-Exit status: 0 on success, 1 if a text is no reference, 2 on a usage error.
+Use it before you compare, sort or count links. In the normal form, scheme
+and host are in lower case, escapes stand only where they are needed and have
+upper-case digits, and dot segments are removed. To leave out a default port see
+uri help --drop-default-port.
+
+Exit status: 0 on success, 1 if TEXT is not a reference, 2 on a usage error.
 
 Example:
     uri normalize 'HTTP://EXAMPLE.com/a/../%7Eb'
@@ -39,19 +39,15 @@ prints
 pub static ABOUT_DROP_DEFAULT_PORT: Topic = (
     "--drop-default-port",
     "\
-uri --drop-default-port normalize TEXT
-                      the normal form without a port that is the scheme's
-                      default one
-",
-    "\
-uri --drop-default-port normalize TEXT
-uri --lines --drop-default-port normalize
+Leaves out the port in a normal form if it is the scheme's default one.
 
-Prints the normal form of the reference without its port if that is the default
-port of the scheme, as 443 of https: RFC 3986, section 6.2.3. A scheme without
-a default port keeps each port.
+Usage: uri --drop-default-port normalize TEXT
+       uri --lines --drop-default-port normalize
 
-Exit status: 0 on success, 1 if a text is no reference, 2 on a usage error.
+Use it to compare web links: 443 is the default port of https (RFC 3986, section
+6.2.3). A scheme without a default port keeps its ports.
+
+Exit status: 0 on success, 1 if TEXT is not a reference, 2 on a usage error.
 
 Example:
     uri --drop-default-port normalize 'HTTPS://h:443/%7Ea'

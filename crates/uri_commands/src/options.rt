@@ -1,6 +1,6 @@
 //! The options of a command, which precede its texts.
 
-ghost use Rattle.std.specs.Prelude.{◌≡◌, ◌<◌, ◌≤◌, IfSome, Some, length, map};
+ghost use Rattle.std.specs.Prelude.{◌≡◌, ◌<◌, ◌≤◌, ◌∷◌, IfSome, Some, length, map};
 ghost use Rattle.std.specs.Option.{option_map};
 ghost use Rattle.uri_commands.specs.Options as spec;
 ghost use Rattle.uri_commands.specs.Options.{both};
@@ -191,12 +191,83 @@ fn split_name<'w, 't>(words: &'w [&'t str]) -> (Option<&'t str>, &'w [&'t str])
     }
 }
 
+/// Whether the word asks for help.
+fn is_help(word: &str) -> bool
+    ensures { result ≡ spec.is_help word.now }
+{
+    matches!(word, "-h" | "--help")
+}
+
+/// Whether a command has this name.
+fn is_command(name: &str) -> bool
+    ensures { result ≡ spec.is_command name.now }
+{
+    matches!(
+        name,
+        "parse"
+            | "tail"
+            | "get"
+            | "pairs"
+            | "pair"
+            | "equal"
+            | "within"
+            | "host-within"
+            | "normalize"
+            | "resolve"
+            | "relativize"
+            | "edit"
+            | "file"
+            | "escape"
+            | "encode"
+            | "decode"
+            | "help"
+    )
+}
+
+/// The command that the words are a synonym of, and its texts.
+fn synonym<'w, 't>(words: &'w [&'t str]) -> Option<(&'t str, &'w [&'t str])>
+    ensures { option_map (λ r. r.0.now ∷ map (λ w. w.now) r.1.now) result ≡ spec.synonym (map (λ w. w.now) words.now) }
+{
+    match words {
+        [word] => {
+            if is_help(word) {
+                Some(("help", &words[1..]))
+            } else if *word == "-V" {
+                Some(("--version", &words[1..]))
+            } else {
+                None
+            }
+        }
+        [word, next] => {
+            if is_help(next) && is_command(word) {
+                Some(("help", &words[..1]))
+            } else if is_help(word) {
+                Some(("help", &words[1..]))
+            } else {
+                None
+            }
+        }
+        _ => None,
+    }
+}
+
 /// Splits the words into the options, the command's name, if there is one, and its texts.
 ///
 /// Options stand before the command or after it, in any order, but before its texts. `--` ends them. What
-/// follows `help` is a name, also an option's.
+/// follows `help` is a name, also an option's. `-h` and `--help` are `help`, `-V` is `--version`, and a command
+/// with `-h` or `--help` as the only other word is `help` on that command.
 pub fn split_options<'w, 't>(words: &'w [&'t str]) -> (Options, Option<&'t str>, &'w [&'t str])
     ensures { spec.asked (map (λ w. w.now) words.now) ≡ record { options = result.0; command = spec.command_of (option_map (λ w. w.now) result.1) (map (λ w. w.now) result.2.now) } }
+{
+    match synonym(words) {
+        Some((name, texts)) => (Options::NONE, Some(name), texts),
+        None => split_in_full(words),
+    }
+}
+
+/// Splits words that are no synonym.
+fn split_in_full<'w, 't>(words: &'w [&'t str]) -> (Options, Option<&'t str>, &'w [&'t str])
+    ensures { spec.asked_in_full (map (λ w. w.now) words.now) ≡ record { options = result.0; command = spec.command_of (option_map (λ w. w.now) result.1) (map (λ w. w.now) result.2.now) } }
 {
     let (options, rest) = read_options(Options::NONE, words);
     let Some((name, more)) = rest.split_first() else {

@@ -16,22 +16,18 @@ use uriparse_text::internal::Held;
 pub static ABOUT: Topic = (
     "pair",
     "\
-uri pair NAME TEXT    the bytes of the value of the query's first pair of this
-                      name
-",
-    "\
-uri pair NAME TEXT
-uri --lines pair NAME
+Prints the decoded value of a query parameter.
 
-Prints the bytes that the value of a pair stands for, and a newline: of the
-first pair in the reference's query whose decoded name is NAME. A pair without
-a `=` has an empty value. A `+` is a `+`, as for uri decode.
+Usage: uri pair NAME TEXT
+       uri --lines pair NAME
 
-With --lines the value is printed as it stands, since a decoded newline would
-break the line in two: `uri decode` gets the bytes of one. An absent pair is an
-empty line then, and the status is 0.
+Use it to read one parameter of a link: the first pair of the query whose
+decoded name is NAME. A pair without a `=` has an empty value. A `+` is a `+`.
 
-Exit status: 0 on success, 1 if a text is no reference, 2 on a usage error,
+With --lines the value is printed undecoded, since a decoded newline would break
+the line in two. An absent pair is an empty line then, and the status is 0.
+
+Exit status: 0 on success, 1 if TEXT is not a reference, 2 on a usage error,
 3 without --lines if there is no such pair; nothing is printed then.
 
 Example:

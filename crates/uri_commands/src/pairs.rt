@@ -15,18 +15,16 @@ use uriparse_text::internal::Held;
 pub static ABOUT: Topic = (
     "pairs",
     "\
-uri pairs TEXT        the pairs of the reference's query, a line each
-",
-    "\
-uri pairs TEXT
+Prints the pairs of a reference's query, a line each.
 
-Prints the pairs of the reference's query, the pieces between its `&`, on a line
-each: NAME=VALUE, or NAME if the piece has no `=`. They are printed as they
-stand, so no line has a second newline, and `uri decode` gets the bytes of one.
-The first `=` ends the name.
+Usage: uri pairs TEXT
 
-Exit status: 0 on success, 1 if the text is no reference, 2 on a usage error,
-3 if the reference has no query; nothing is printed then.
+Use it to see the parameters of a link. A pair is what stands between two `&`:
+NAME=VALUE, or NAME without a `=`. The first `=` ends the name. Pairs are
+printed undecoded, so each takes one line; uri decode decodes one.
+
+Exit status: 0 on success, 1 if TEXT is not a reference, 2 on a usage error,
+3 if it has no query; nothing is printed then.
 
 Example:
     uri pairs 'http://h/?a=1&b=x%26y&c'

@@ -14,24 +14,23 @@ use uriparse::{Authority, Host, URIReference};
 pub static ABOUT: Topic = (
     "parse",
     "\
-uri parse TEXT        the reference, and then each of its parts
-",
-    "\
-uri parse TEXT
-uri --json parse TEXT
-uri --quiet parse TEXT
-uri --explain parse TEXT
-uri --lines parse
-uri --lines --quiet parse
-uri --lines --explain parse
+Prints a reference, then each of its components.
 
-Prints the reference, and on a line each its components as NAME=VALUE: scheme,
-username, password, host, port, path, query and fragment, if present. The name
-of a host says what it is: host.ipv4, host.ipv6, host.ipvfuture or host.name.
-For the options see uri help --json, uri help --quiet, uri help --explain and
-uri help --lines.
+Usage: uri parse TEXT
+       uri --json parse TEXT
+       uri --quiet parse TEXT
+       uri --explain parse TEXT
+       uri --lines parse
+       uri --lines --quiet parse
+       uri --lines --explain parse
 
-Exit status: 0 on success, 1 if a text is no reference, 2 on a usage error.
+Use it to check input, or to see what it is made of. Each component that is
+present is a line NAME=VALUE: scheme, username, password, host, port, path,
+query and fragment. The name of a host says its kind: host.ipv4, host.ipv6,
+host.ipvfuture or host.name. With --lines, parse prints a JSON object for each
+line. See uri help --json, --quiet, --explain and --lines.
+
+Exit status: 0 on success, 1 if TEXT is not a reference, 2 on a usage error.
 
 Example:
     uri parse 'HTTP://u@h:80/%7Eb?q#f'

@@ -10,19 +10,17 @@ use uriparse::{ReferenceView, URIReference};
 pub static ABOUT: Topic = (
     "--quiet",
     "\
-uri --quiet parse TEXT, uri --quiet equal A B
-                      nothing but the status
-",
-    "\
-uri --quiet parse TEXT
-uri --quiet equal A B
-uri --lines --quiet parse
-uri --lines --quiet equal
+Prints nothing: the status alone reports the result.
 
-Prints nothing about texts; the status alone reports the result. With --lines,
-a read that fails and a lack of memory are still reported.
+Usage: uri --quiet parse TEXT
+       uri --quiet equal A B
+       uri --lines --quiet parse
+       uri --lines --quiet equal
 
-Exit status: 0 on success, 1 if a text is no reference, 2 on a usage error,
+Use it in conditions. No message says why input is rejected. With --lines, a
+failed read and running out of memory are still reported.
+
+Exit status: 0 on success, 1 if input is not a reference, 2 on a usage error,
 3 if two references differ.
 
 Example:

@@ -12,17 +12,15 @@ use uriparse::URI;
 pub static ABOUT: Topic = (
     "relativize",
     "\
-uri relativize BASE URI
-                      the reference that leads from the base to the URI
-",
-    "\
-uri relativize BASE URI
-uri --lines relativize BASE
+Prints the reference that leads from a base to a URI.
 
-Prints the reference that leads from the base to the URI, without what both
-have in common: `uri resolve` makes the same of it as of the URI.
+Usage: uri relativize BASE URI
+       uri --lines relativize BASE
 
-Exit status: 0 on success, 1 if a text is no URI, 2 on a usage error.
+Use it for links that don't name their own site. It leaves out what both have in
+common; uri resolve makes the same of the result as of the URI.
+
+Exit status: 0 on success, 1 if BASE or URI is not a URI, 2 on a usage error.
 
 Example:
     uri relativize 'http://a/b/c/d;p?q' 'http://a/b/g#s'

@@ -15,19 +15,18 @@ use uriparse::{BufferError, ReferenceView, URIView};
 pub static ABOUT: Topic = (
     "resolve",
     "\
-uri resolve BASE REF  the target of the reference against the base, a URI
-",
-    "\
-uri resolve BASE REF
-uri --explain resolve BASE REF
-uri --lines resolve BASE
-uri --lines --explain resolve BASE
+Prints the target of a reference against a base.
 
-Prints the target of the reference against the base, a URI: RFC 3986, section
-5.2. For the option see uri help --explain.
+Usage: uri resolve BASE REF
+       uri --explain resolve BASE REF
+       uri --lines resolve BASE
+       uri --lines --explain resolve BASE
 
-Exit status: 0 on success, 1 if the base is no URI, a text is no reference or
-the merged path is too long, 2 on a usage error.
+Use it to make URIs of the links of a page: BASE is the page's URI. The target
+is the one of RFC 3986, section 5.2. See uri help --explain.
+
+Exit status: 0 on success, 1 if BASE is not a URI, REF is not a reference or the
+merged path is too long, 2 on a usage error.
 
 Example:
     uri resolve 'http://a/b/c/d;p?q' '../g#s'

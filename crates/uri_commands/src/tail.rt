@@ -21,15 +21,15 @@ use uriparse_text::internal::{Held, split_at_delimiter, without_delimiter};
 pub static ABOUT: Topic = (
     "tail",
     "\
-uri tail TEXT         path, query and fragment of a text, and each of them
-",
-    "\
-uri tail TEXT
+Prints a path, query and fragment, then each of them.
 
-Reads what follows an authority: a path, a query and a fragment. Prints the
-text, and on a line each its components as NAME=VALUE.
+Usage: uri tail TEXT
 
-Exit status: 0 on success, 1 if the text is rejected, 2 on a usage error.
+Use it for what follows an authority, such as the target of a request. TEXT has
+no scheme and no host: a colon or two slashes at its start are part of the path.
+Each component that is present is a line NAME=VALUE.
+
+Exit status: 0 on success, 1 if TEXT is rejected, 2 on a usage error.
 
 Example:
     uri tail 'a/b?q#f'

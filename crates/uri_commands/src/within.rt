@@ -20,28 +20,27 @@ use uriparse_text::internal::Held;
 pub static ABOUT: Topic = (
     "within",
     "\
-uri within BASE URI   nothing; the status says whether the URI is below the
-                      base, by scheme, host, port and directory
-",
-    "\
-uri within BASE URI
-uri --lines within BASE
+Says by its status whether a URI is below a base.
 
-The status says whether the URI is below the base, a URI too: scheme, host, port
-and user information are equal, and the path begins with the base's up to its
-last slash. Both are compared in normal form, without dot segments and default
-ports. Hand on the normal form: not every server takes %2e%2e for two dots.
+Usage: uri within BASE URI
+       uri --lines within BASE
+
+Use it to keep to a site or to a directory of it. The URI is below the base if
+scheme, host, port and user information are equal, and its path begins with the
+base's up to its last slash. Both are compared in normal form, without dot
+segments and default ports. Pass on the normal form: not every server decodes
+%2e%2e to two dots.
 
 The URI is not below the base if, after that slash, its path has a segment that
-servers may take for several, or for a dot segment: one with %2F, %5C, %25 or
-%00, or such as ..;a and ..%3Fa. Nor is it if a double dot of its path removes
-such a segment, or one that is empty, or empty before such a delimiter.
+servers read in different ways: one with %2F, %5C, %25 or %00, or such as ..;a
+and ..%3Fa. Nor is it if a double dot of its path removes such a segment, or one
+that is empty, or empty before such a delimiter.
 
-With --lines prints each line whose URI is below the base, as grep does, and the
-status is 0 even if none is.
+With --lines it prints each line whose URI is below the base, as grep does, and
+the status is 0 even if none is.
 
-Exit status: 0 on success, 1 if a text is no URI, 2 on a usage error, 3 without
---lines if the URI is not below the base.
+Exit status: 0 on success, 1 if BASE or URI is not a URI, 2 on a usage error,
+3 without --lines if the URI is not below the base.
 
 Example:
     uri within 'https://h/app/' 'https://h:443/app/a?b' && echo below
@@ -55,25 +54,22 @@ prints
 pub static ABOUT_HOST: Topic = (
     "host-within",
     "\
-uri host-within DOMAIN REF
-                      nothing; the status says whether the reference's host
-                      is the domain or under it
-",
-    "\
-uri host-within DOMAIN REF
-uri --lines host-within DOMAIN
+Says by its status whether the host of a reference is in a domain.
 
-The status says whether the reference's host is the domain or under it: they are
-equal, or both are names, and the labels of the host end with those of the
-domain. Upper case, escapes of letters, and a dot at the end don't count. Only
-itself is under an address, or under a name with other escapes, such as %2F, and
-these are under nothing else. A reference without a host is under no domain.
+Usage: uri host-within DOMAIN REF
+       uri --lines host-within DOMAIN
 
-With --lines prints each line whose host is under the domain, as grep does, and
+Use it to pick the links of a domain and its subdomains. The host is the domain,
+or both are names, and the labels of the host end with those of the domain.
+Case, escapes of letters and a final dot don't count. An address is only within
+itself, and so is a name with other escapes, such as %2F. A reference without a
+host is in no domain.
+
+With --lines it prints each line whose host is in the domain, as grep does, and
 the status is 0 even if none is.
 
-Exit status: 0 on success, 1 if the domain is no host or a text is no reference,
-2 on a usage error, 3 without --lines if the host is not under the domain.
+Exit status: 0 on success, 1 if DOMAIN is not a host or REF not a reference,
+2 on a usage error, 3 without --lines if the host is not in the domain.
 
 Example:
     uri host-within example.com 'http://www.EXAMPLE.com/' && echo under
