@@ -51,6 +51,13 @@ pub fn print_normal_form<O: Write, E: Write>(
     run(alloc, &["normalize", "--", text], out, err)
 }
 
+/// Prints the sort key of a reference.
+pub fn print_key<O: Write, E: Write>(alloc: Global, text: &str, out: &mut O, err: &mut E) -> u8
+    ensures { spec.Ends (spec.Keys text.now) (O.contents out.old) (O.contents out.new) result }
+{
+    run(alloc, &["key", "--", text], out, err)
+}
+
 /// Prints the normal form of a reference without a port that is the scheme's default one.
 pub fn print_without_default_port<O: Write, E: Write>(
     alloc: Global,

@@ -46,6 +46,7 @@ use Rattle.uriparse.specs.PathError.TheVariants.{ExceededMaximumLength, OutOfMem
 use Rattle.uriparse.specs.Ports.{without_default_port}
 use Rattle.uriparse.specs.Reading.{fault}
 use Rattle.uriparse.specs.Reference.{Parts, Spells, host_of, print}
+use Rattle.uriparse.specs.SortKey.{sort_key}
 use Rattle.uriparse.specs.Target.{target}
 use Rattle.uriparse.specs.URIReferenceError.{URIReferenceError}
 use Rattle.uriparse.specs.URIReferenceError.TheVariants as references
@@ -54,7 +55,7 @@ use Rattle.uriparse.specs.declared.uri.error.URIError.{URIError}
 use Rattle.uriparse.specs.declared.uri.error.URIError.TheVariants as uris
 use Rattle.uri_commands.specs.Columns.{tab}
 use Rattle.uri_commands.specs.Edits.{steps_made}
-use Rattle.uri_commands.specs.Output.{Answer, AnswersLine, Checks, ChecksAgainst, ChecksEqual, Compares, ComparesWith, Decodes, Does, EditsLine, Encodes, Ended, EndsWork, Escapes, Files, Finds, EscapesLink, Gets, GetsFile, GetsOrEmpty, GetsParts, GetsPair, GetsPairOrEmpty, HasHostUnder, HostWithin, IfSo, IsBelow, IsOfBuffer, IsOfReference, IsOfUri, IsUnder, LacksTarget, LeadsTo, Normalizes, NormalizesPort, OfPair, OfReference, OfUri, Pairs, ParsesJson, Prints, PrintsHostWithin, PrintsIfPresent, PrintsPairs, PrintsWithin, Relativizes, RelativizesAgainst, Resolves, ResolvesAgainst, Within, Writes, WritesIfPresent, answer_of, class_of, equal_or_different, line, line_if, nothing_if, pair_lines, part_text}
+use Rattle.uri_commands.specs.Output.{Answer, AnswersLine, Checks, ChecksAgainst, ChecksEqual, Compares, ComparesWith, Decodes, Does, EditsLine, Encodes, Ended, EndsWork, Escapes, Files, Finds, EscapesLink, Gets, GetsFile, GetsOrEmpty, GetsParts, GetsPair, GetsPairOrEmpty, HasHostUnder, HostWithin, IfSo, IsBelow, IsOfBuffer, IsOfReference, IsOfUri, IsUnder, Keys, LacksTarget, LeadsTo, Normalizes, NormalizesPort, OfPair, OfReference, OfUri, Pairs, ParsesJson, Prints, PrintsHostWithin, PrintsIfPresent, PrintsPairs, PrintsWithin, Relativizes, RelativizesAgainst, Resolves, ResolvesAgainst, Within, Writes, WritesIfPresent, answer_of, class_of, equal_or_different, line, line_if, nothing_if, pair_lines, part_text}
 use Rattle.uri_commands.specs.Output.{Negative, Printed, Rejected, Unknown}
 use Rattle.uri_commands.specs.declared.commands.Task.{Task}
 use Rattle.uri_commands.specs.declared.commands.Task.TheVariants as tasks
@@ -131,6 +132,11 @@ normalized_port t p q a b r spelled is written =
     let bytes = line (print q) in
     of_reference t p (λ x. Prints (print (without_default_port (normal x)))) a b r spelled
     (answered (Prints (print (without_default_port (normal p)))) bytes a b r (ap (λ x. Printed (line (print x))) is) written)
+
+pub keyed : (t : List ℕ) (p : Parts) (bytes : List ℕ) (a b : Known) (r : Done)
+    → Spells t p → bytes ≡ sort_key p → Writes (line bytes) a b r → Does (Keys t) a b r
+keyed t p bytes a b r spelled is written =
+    of_reference t p (λ q. Prints (sort_key q)) a b r spelled (answered (Prints (sort_key p)) (line bytes) a b r (ap (λ x. Printed (line x)) is) written)
 
 pub compared : (t : List ℕ) (p q : Parts) (a b : Known) (r : Done)
     → Spells t q → Writes (line (equal_or_different (bytes_eq (key p) (key q)))) a b r → Does (ComparesWith p t) a b r
@@ -720,6 +726,9 @@ run_normalize task t a b r is done = subst (λ w. AnswersTask w t a b r) (sym is
 
 pub run_normalize_port : (task : Task) (t : List ℕ) (a b : Known) (r : Done) → task ≡ tasks.NormalizePort → Does (NormalizesPort t) a b r → Does (λ x. AnswersLine task t x) a b r
 run_normalize_port task t a b r is done = subst (λ w. AnswersTask w t a b r) (sym is) done
+
+pub run_key : (task : Task) (t : List ℕ) (a b : Known) (r : Done) → task ≡ tasks.Key → Does (Keys t) a b r → Does (λ x. AnswersLine task t x) a b r
+run_key task t a b r is done = subst (λ w. AnswersTask w t a b r) (sym is) done
 
 pub run_equal : (task : Task) (t : List ℕ) (a b : Known) (r : Done) → task ≡ tasks.Equal → Does (OfPair t Compares) a b r → Does (λ x. AnswersLine task t x) a b r
 run_equal task t a b r is done = subst (λ w. AnswersTask w t a b r) (sym is) done

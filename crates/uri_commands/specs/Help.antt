@@ -13,6 +13,7 @@ use Rattle.uri_commands.specs.declared.file.TheConstants.{ABOUT as file}
 use Rattle.uri_commands.specs.declared.get.TheConstants.{ABOUT as get}
 use Rattle.uri_commands.specs.declared.help.TheConstants.{ABOUT as help, SUMMARY, VERSION}
 use Rattle.uri_commands.specs.declared.json.TheConstants.{ABOUT as json}
+use Rattle.uri_commands.specs.declared.key.TheConstants.{ABOUT as key}
 use Rattle.uri_commands.specs.declared.lines.TheConstants.{ABOUT as lines}
 use Rattle.uri_commands.specs.declared.normalize.TheConstants.{ABOUT as normalize, ABOUT_DROP_DEFAULT_PORT as drop_default_port}
 use Rattle.uri_commands.specs.declared.pair.TheConstants.{ABOUT as pair}
@@ -48,6 +49,7 @@ topics =
     ∷ about within
     ∷ about host
     ∷ about normalize
+    ∷ about key
     ∷ about resolve
     ∷ about relativize
     ∷ about edit

@@ -35,6 +35,7 @@ use Rattle.uriparse.specs.Query as query
 use Rattle.uriparse.specs.Reading.{fault}
 use Rattle.uriparse.specs.Reference.{Parts, Spells, authority_part, host_of, password_of, port_of, print, scheme_part, username_of}
 use Rattle.uriparse.specs.Relate.{relative}
+use Rattle.uriparse.specs.SortKey.{sort_key}
 use Rattle.uriparse.specs.Target.{target}
 use Rattle.uriparse.specs.TextCuts.{after, before}
 use Rattle.uriparse.specs.URIReferenceError.{URIReferenceError}
@@ -223,6 +224,10 @@ GetsNames names t a = MatchOption (parts_named names) (a ≡ Unknown) (λ ps. Ge
 abbrev pub Normalizes : List ℕ → Answer → Type 0
 Normalizes t = OfReference t (λ p. Prints (print (normal p)))
 
+-- key: the sort key
+abbrev pub Keys : List ℕ → Answer → Type 0
+Keys t = OfReference t (λ p. Prints (sort_key p))
+
 -- equal: whether two references are equal
 abbrev pub equal_or_different : Bool → List ℕ
 equal_or_different true = codes "equal"
@@ -368,6 +373,7 @@ AnswersLine (tasks.Get part) t = GetsOrEmpty part t
 AnswersLine (tasks.GetParts parts) t = GetsParts parts.items t
 AnswersLine tasks.Normalize t = Normalizes t
 AnswersLine tasks.NormalizePort t = NormalizesPort t
+AnswersLine tasks.Key t = Keys t
 AnswersLine tasks.Equal t = OfPair t Compares
 AnswersLine tasks.CheckEqual t = OfPair t ChecksEqual
 AnswersLine (tasks.Resolve base) t = ResolvesAgainst base.parts t
@@ -433,6 +439,7 @@ AnswersNamed name texts =
     when bytes_eq name (codes "tail") then OnText Tails texts else
     when bytes_eq name (codes "get") then OnTexts GetsNamed texts else
     when bytes_eq name (codes "normalize") then OnText Normalizes texts else
+    when bytes_eq name (codes "key") then OnText Keys texts else
     when bytes_eq name (codes "equal") then OnTexts Compares texts else
     when bytes_eq name (codes "resolve") then OnTexts Resolves texts else
     when bytes_eq name (codes "relativize") then OnTexts Relativizes texts else
@@ -491,9 +498,9 @@ Answers options words = when is_for_lines options || not (may_explain options wo
 -- the names of the commands that print something
 abbrev pub printing : List (List ℕ)
 printing =
-    codes "parse" ∷ codes "tail" ∷ codes "get" ∷ codes "normalize" ∷ codes "equal" ∷ codes "resolve" ∷ codes "relativize"
-    ∷ codes "decode" ∷ codes "encode" ∷ codes "escape" ∷ codes "pairs" ∷ codes "pair" ∷ codes "file" ∷ codes "edit"
-    ∷ codes "help" ∷ codes "--version" ∷ []
+    codes "parse" ∷ codes "tail" ∷ codes "get" ∷ codes "normalize" ∷ codes "key" ∷ codes "equal" ∷ codes "resolve"
+    ∷ codes "relativize" ∷ codes "decode" ∷ codes "encode" ∷ codes "escape" ∷ codes "pairs" ∷ codes "pair" ∷ codes "file"
+    ∷ codes "edit" ∷ codes "help" ∷ codes "--version" ∷ []
 
 -- whether the command of this name prints something
 abbrev pub prints : Mode → List ℕ → Bool

@@ -19,6 +19,7 @@ use crate::file::{self, file, get_file};
 use crate::get::{self, Part, get, get_or_empty, get_parts, read_parts};
 use crate::help::{self, help, help_on, version};
 use crate::json::{self, parse_json};
+use crate::key::{self, key, key_with};
 use crate::normalize::{self, normalize, normalize_port, normalize_with};
 use crate::options::{Mode, Options};
 use crate::pair::{self, pair, pair_or_empty};
@@ -39,7 +40,7 @@ use uriparse::{Host, URI, URIReference, URIView};
 /// static table.
 #[tactic(auto, unfolding(crate::specs::Help::topics))]
 pub fn topic(place: usize) -> Option<&'static Topic>
-    ensures bound { IfSome result (λ _. place < 27) }
+    ensures bound { IfSome result (λ _. place < 28) }
     ensures topic { option_map (λ t. record { name = t.now.0.now; page = t.now.1.now }) result ≡ slice_get topics place }
 {
     match place {
@@ -52,24 +53,25 @@ pub fn topic(place: usize) -> Option<&'static Topic>
         6 => Some(&within::ABOUT),
         7 => Some(&within::ABOUT_HOST),
         8 => Some(&normalize::ABOUT),
-        9 => Some(&resolve::ABOUT),
-        10 => Some(&relativize::ABOUT),
-        11 => Some(&edit::ABOUT),
-        12 => Some(&file::ABOUT),
-        13 => Some(&escape::ABOUT),
-        14 => Some(&encode::ABOUT),
-        15 => Some(&decode::ABOUT),
-        16 => Some(&help::ABOUT),
-        17 => Some(&json::ABOUT),
-        18 => Some(&quiet::ABOUT),
-        19 => Some(&explain::ABOUT),
-        20 => Some(&normalize::ABOUT_DROP_DEFAULT_PORT),
-        21 => Some(&escape::ABOUT_TRIM),
-        22 => Some(&lines::ABOUT),
-        23 => Some(&columns::ABOUT_ALIGN),
-        24 => Some(&columns::ABOUT_COLUMN),
-        25 => Some(&columns::ABOUT_APPEND),
-        26 => Some(&columns::ABOUT_NULL),
+        9 => Some(&key::ABOUT),
+        10 => Some(&resolve::ABOUT),
+        11 => Some(&relativize::ABOUT),
+        12 => Some(&edit::ABOUT),
+        13 => Some(&file::ABOUT),
+        14 => Some(&escape::ABOUT),
+        15 => Some(&encode::ABOUT),
+        16 => Some(&decode::ABOUT),
+        17 => Some(&help::ABOUT),
+        18 => Some(&json::ABOUT),
+        19 => Some(&quiet::ABOUT),
+        20 => Some(&explain::ABOUT),
+        21 => Some(&normalize::ABOUT_DROP_DEFAULT_PORT),
+        22 => Some(&escape::ABOUT_TRIM),
+        23 => Some(&lines::ABOUT),
+        24 => Some(&columns::ABOUT_ALIGN),
+        25 => Some(&columns::ABOUT_COLUMN),
+        26 => Some(&columns::ABOUT_APPEND),
+        27 => Some(&columns::ABOUT_NULL),
         _ => None,
     }
 }
@@ -203,6 +205,7 @@ fn run_plain<O: Write>(alloc: Global, name: &str, text: &str, out: &mut O) -> Re
         "parse" => parse(alloc, text, out),
         "tail" => tail(alloc, text, out),
         "normalize" => normalize(alloc, text.as_bytes(), out),
+        "key" => key(alloc, text.as_bytes(), out),
         "decode" => decode(alloc, text.as_bytes(), out),
         "escape" => escape(alloc, text.as_bytes(), out),
         "pairs" => pairs(alloc, text.as_bytes(), out),
@@ -282,6 +285,8 @@ pub enum Task<'w> {
     Normalize,
     /// Print the normal form without a port that is the scheme's default one.
     NormalizePort,
+    /// Print the reference's sort key.
+    Key,
     /// Print whether the line's two references are equal.
     Equal,
     /// Check that the line's two references are equal.
@@ -368,6 +373,7 @@ impl<'w> Task<'w> {
         match (mode, name) {
             (Mode::Plain, "parse") => Ok(Task::Parse),
             (Mode::Plain, "normalize") => Ok(Task::Normalize),
+            (Mode::Plain, "key") => Ok(Task::Key),
             (Mode::Plain, "equal") => Ok(Task::Equal),
             (Mode::Plain, "escape") => Ok(Task::Escape),
             (Mode::Json, "parse") => Ok(Task::Parse),
@@ -407,8 +413,8 @@ impl<'w> Task<'w> {
         }
     }
 
-    /// Does the task for a line. Normal forms and targets are put together in the buffer.
-    #[tactic(auto, using(crate::proofs::OutputLemmas::run_parse, crate::proofs::OutputLemmas::run_check, crate::proofs::OutputLemmas::run_get, crate::proofs::OutputLemmas::run_normalize, crate::proofs::OutputLemmas::run_normalize_port, crate::proofs::OutputLemmas::run_equal, crate::proofs::OutputLemmas::run_check_equal, crate::proofs::OutputLemmas::run_resolve, crate::proofs::OutputLemmas::run_relativize, crate::proofs::OutputLemmas::run_edit, crate::proofs::OutputLemmas::run_get_parts, crate::proofs::OutputLemmas::run_pair, crate::proofs::OutputLemmas::run_within, crate::proofs::OutputLemmas::run_host_within, crate::proofs::OutputLemmas::run_escape, crate::proofs::OutputLemmas::run_escape_link))]
+    /// Does the task for a line. Normal forms, keys and targets are put together in the buffer.
+    #[tactic(auto, using(crate::proofs::OutputLemmas::run_parse, crate::proofs::OutputLemmas::run_check, crate::proofs::OutputLemmas::run_get, crate::proofs::OutputLemmas::run_normalize, crate::proofs::OutputLemmas::run_normalize_port, crate::proofs::OutputLemmas::run_key, crate::proofs::OutputLemmas::run_equal, crate::proofs::OutputLemmas::run_check_equal, crate::proofs::OutputLemmas::run_resolve, crate::proofs::OutputLemmas::run_relativize, crate::proofs::OutputLemmas::run_edit, crate::proofs::OutputLemmas::run_get_parts, crate::proofs::OutputLemmas::run_pair, crate::proofs::OutputLemmas::run_within, crate::proofs::OutputLemmas::run_host_within, crate::proofs::OutputLemmas::run_escape, crate::proofs::OutputLemmas::run_escape_link))]
     pub fn run<O: Write>(
         &self,
         alloc: Global,
@@ -425,6 +431,7 @@ impl<'w> Task<'w> {
             Task::GetParts(parts) => get_parts(alloc, parts, line, out),
             Task::Normalize => normalize_with(buffer, line, out),
             Task::NormalizePort => normalize_port(alloc, line, out),
+            Task::Key => key_with(buffer, line, out),
             Task::Equal => equal_pair(line, out),
             Task::CheckEqual => check_pair(line),
             Task::Resolve(base) => resolve_with(buffer, base, line, out),

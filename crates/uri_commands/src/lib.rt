@@ -22,6 +22,7 @@ mod get;
 mod help;
 pub mod internal;
 mod json;
+mod key;
 pub mod laws;
 mod lines;
 mod normalize;

@@ -213,6 +213,7 @@ fn is_command(name: &str) -> bool
             | "within"
             | "host-within"
             | "normalize"
+            | "key"
             | "resolve"
             | "relativize"
             | "edit"
