@@ -45,7 +45,6 @@ prints
 const SUMMARY: &str = "\
 uri reads, compares, edits and resolves URIs and references (RFC 3986).
 Usage: uri [OPTION..] COMMAND TEXT..     More, with an example: uri help COMMAND
-
 Read      parse TEXT              the reference, then each of its components
           tail TEXT               the same of a path, query and fragment alone
           get PART,.. TEXT        components, the origin, or the path of a file
