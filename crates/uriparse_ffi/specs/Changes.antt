@@ -1,5 +1,5 @@
 -- What a caller in C wants of the components of a reference, and what the call leaves in the buffer.
-use Rattle.std.specs.Prelude.{◌≡◌, ℕ, Bool, true, false, ◌==◌, ◌&&◌, ◌||◌, ◌-◌, nat_le, if◌then◌else◌, List, length, take, drop, Option, Some, None, Result, Ok, Err}
+use Rattle.std.specs.Prelude.{ℕ, Bool, ◌==◌, ◌&&◌, ◌||◌, ◌-◌, nat_le, if◌then◌else◌, List, length, take, drop, Some, None, Result, Ok, Err}
 use Rattle.uriparse_reference.specs.Wanted.{Wanted, Wish}
 use Rattle.uriparse_reference.specs.View.{Viewed}
 use Rattle.uriparse_reference.specs.declared.uri_reference.change.ChangeError.{ChangeError}

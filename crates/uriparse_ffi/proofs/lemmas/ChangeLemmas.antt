@@ -1,5 +1,5 @@
 -- What is left in a buffer of a reference with components changed.
-use Rattle.std.proofs.Common.{◌≡◌, ℕ, true, List, length, Ok, Err, refl, ap, subst, ◌∙◌, arith}
+use Rattle.std.proofs.Common.{◌≡◌, ℕ, true, List, length, Ok, Err, ap, subst, ◌∙◌, arith}
 use Rattle.std.specs.Prelude.{Result}
 use Rattle.std.proofs.lemmas.Bool.{and_parts}
 use Rattle.uriparse_text.proofs.lemmas.tokens.StartLemmas.{too_short}

@@ -1,4 +1,4 @@
-use Rattle.std.proofs.Common.{◌≡◌, length, subst, sym, rules}
+use Rattle.std.proofs.Common.{◌≡◌, length, subst, rules}
 use Rattle.uriparse_reference.specs.Change.{WritesChanged, changing}
 use Rattle.uriparse_ffi.specs.Changes.{wanted_in}
 use Rattle.uriparse_ffi.proofs.lemmas.ChangeLemmas.{change_answered}

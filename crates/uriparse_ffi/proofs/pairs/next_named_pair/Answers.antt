@@ -1,4 +1,4 @@
-use Rattle.std.proofs.Common.{◌≡◌, ◌≤◌, false, drop, length, sym, ap, subst, ◌∙◌, rules, Some}
+use Rattle.std.proofs.Common.{◌≡◌, ◌≤◌, false, drop, length, sym, ap, subst, ◌∙◌, rules}
 use Rattle.std.specs.Prelude.{is_some}
 use Rattle.std.specs.List.{find, list_any}
 use Rattle.uriparse_text.specs.Pairs.{is_named, pairs, pairs_left}
