@@ -130,6 +130,7 @@ named_many name t u more =
     (either (bytes_eq name (codes "parse")) _ _ _ refl
     (either (bytes_eq name (codes "get")) _ _ _ refl
     (either (bytes_eq name (codes "normalize")) _ _ _ refl
+    (either (bytes_eq name (codes "key")) _ _ _ refl
     (either (bytes_eq name (codes "equal")) _ _ _ refl
     (either (bytes_eq name (codes "resolve")) _ _ _ refl
     (either (bytes_eq name (codes "relativize")) _ _ _ refl
@@ -137,7 +138,7 @@ named_many name t u more =
     (either (bytes_eq name (codes "pair")) _ _ _ refl
     (either (bytes_eq name (codes "within")) _ _ _ refl
     (either (bytes_eq name (codes "host-within")) _ _ _ refl
-    refl))))))))))
+    refl)))))))))))
 
 pub many : (mode : Mode) (name t u : List ℕ) (more : List (List ℕ)) → TasksTo mode name (t ∷ u ∷ more) (Err Unknown)
 many modes.Plain name t u more = named_many name t u more

@@ -27,6 +27,7 @@ use Rattle.uriparse.specs.Normal.{normal}
 use Rattle.uriparse.specs.PairEdits.{pair_in}
 use Rattle.uriparse.specs.Ports.{without_default_port}
 use Rattle.uriparse.specs.Reference.{Parts, print}
+use Rattle.uriparse.specs.SortKey.{sort_key}
 use Rattle.uriparse.specs.Target.{target}
 use Rattle.uri_commands.specs.Columns.{tab}
 use Rattle.uri_commands.specs.Output.{Answer, Printed, Prints, PrintsIfPresent, PrintsPairs, Rejected, equal_or_different, nothing_if, part_text, reference_lines}
@@ -47,6 +48,7 @@ returns c =
           (λ p. Prints (join_with_byte tab (map (λ part. unwrap_or (part_text part p) []) (part.Host ∷ part.Query ∷ [])))) _ refl;
       normalize = of_reference reads (codes "HTTP://%61:80/b/../%7Ec") (λ p. Prints (print (normal p))) _ refl;
       drop_default_port = of_reference reads (codes "HTTP://a:80/%7E") (λ p. Prints (print (without_default_port (normal p)))) _ refl;
+      key = of_reference reads (codes "a?b") (λ p. Prints (sort_key p)) _ refl;
       equal =
           of_two reads (codes "http://h/%7ea") (codes "HTTP://H/~a") (λ p q. Prints (equal_or_different (bytes_eq (key p) (key q)))) _ refl;
       different = of_two reads (codes "http://h/a") (codes "http://h/b") (λ p q a. a ≡ nothing_if (bytes_eq (key p) (key q))) _ refl;
