@@ -380,7 +380,7 @@ pub fn sort_key_into(
 /// ```
 /// let view = ReferenceView::try_from_str("a?b")?;
 /// let key = sort_key_to_string(alloc, &view, KeyForm::EXACT)?;
-/// assert_eq!(key.as_bytes(), b"1\x01\x01a\x01\x02b\x01\x01");
+/// assert_eq!(key.as_bytes(), b"1\x01\x01a\x01\x02b\x01\x01".as_slice());
 /// ```
 pub fn sort_key_to_string(
     alloc: Global,
