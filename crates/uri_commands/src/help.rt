@@ -54,7 +54,7 @@ Compare   equal A B               equal or different
           within BASE URI         status 0 if URI is below BASE, 3 if not
           host-within DOMAIN REF  status 0 if the host is in DOMAIN, 3 if not
 Make      normalize TEXT          the normal form
-          key TEXT                bytes that sort and are equal as references are
+          key TEXT                bytes that sort, and are equal, as references
           resolve BASE REF        the target of the reference
           relativize BASE URI     the reference that leads from BASE to URI
           edit TEXT EDIT..        the reference with components or pairs changed

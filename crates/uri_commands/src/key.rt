@@ -21,8 +21,8 @@ Usage: uri key TEXT
 
 Use it to sort, join or group references by programs that compare bytes, such as
 LC_ALL=C sort -u. Bytes order keys as references are ordered, and keys are equal
-exactly if uri equal says equal. A key is not a URI: keep the URI next to it, for
-example with --append. To ignore dot segments, normalize first.
+exactly if uri equal says equal. A key is not a URI: keep the URI next to it, as
+--append does. To ignore dot segments, normalize first.
 
 A key has the bytes 01 and 02, which a terminal does not show.
 
