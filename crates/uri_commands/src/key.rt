@@ -31,7 +31,7 @@ Exit status: 0 on success, 1 if TEXT is not a reference, 2 on a usage error.
 Example:
     uri key 'HTTP://h/%7Ea' | tr '\\001\\002' '.+'
 prints
-    1+http.+..1h..+/~a...
+    1+http.+..1h../~a...
 ",
 );
 
