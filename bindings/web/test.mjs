@@ -59,9 +59,9 @@ function result(command, texts) {
 
 let tried = 0;
 for (const [[command, ...words], status, out] of rows) {
-  // The words after `--` are texts, however they are spelled.
+  // The words after `--` are texts, however they are spelled. `--explain` is the program's alone.
   const texts = words[0] === "--" ? words.slice(1) : words;
-  if (!(command in CALLS) || status === 2) {
+  if (!(command in CALLS) || status === 2 || words[0] === "--explain") {
     continue;
   }
   tried += 1;
