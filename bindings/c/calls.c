@@ -70,6 +70,11 @@ uint32_t uriparse_host_flags(uriparse_bytes text, size_t len, uint32_t *flags) {
   return proved_host_flags(text_of(text, len), len, flags);
 }
 
+uint32_t proved_disagreement(const uint8_t *text, size_t len, uint32_t *reasons);
+uint32_t uriparse_disagreement(uriparse_bytes text, size_t len, uint32_t *reasons) {
+  return proved_disagreement(text_of(text, len), len, reasons);
+}
+
 uint32_t proved_is_public(const uint8_t *text, size_t len, bool *is_public);
 uint32_t uriparse_is_public(uriparse_bytes text, size_t len, bool *is_public) {
   return proved_is_public(text_of(text, len), len, is_public);

@@ -24,6 +24,11 @@ static void host_is_within(const char *text, const char *domain, uint32_t expect
   check(code == expected && within == (expected == URIPARSE_OK ? answer : !answer), "host_is_within", text);
 }
 
+static void disagreement(const char *text, uint32_t expected, uint32_t reasons) {
+  uint32_t found = 999;
+  check(uriparse_disagreement(text, strlen(text), &found) == expected && found == (expected == URIPARSE_OK ? reasons : 999), "disagreement", text);
+}
+
 static void host_flags(const char *text, uint32_t expected, uint32_t flags) {
   uint32_t found = 99;
   check(uriparse_host_flags(text, strlen(text), &found) == expected && found == (expected == URIPARSE_OK ? flags : 99), "host_flags", text);
@@ -295,6 +300,10 @@ int main(void) {
   host_flags("a", URIPARSE_OK, 0);
   host_flags("//evil.org%2F.example.com", URIPARSE_OK, URIPARSE_HAS_ESCAPES);
   host_flags("//a%2f.1", URIPARSE_OK, URIPARSE_HAS_ESCAPES | URIPARSE_MAY_BE_NUMERIC);
+  disagreement("https://example.com/a", URIPARSE_OK, 0);
+  disagreement("https://u@127.1/%2e", URIPARSE_OK, URIPARSE_NUMERIC_NAME | URIPARSE_ESCAPED_DOTS | URIPARSE_USER_INFORMATION);
+  disagreement("a", URIPARSE_OK, URIPARSE_OTHER_SCHEME);
+  disagreement("a b", URIPARSE_PATH_BYTE, 0);
   hostile_rows("../../tests/hostile.tsv");
   host_flags("a b", URIPARSE_PATH_BYTE, 0);
 

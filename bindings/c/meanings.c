@@ -244,6 +244,9 @@ static void numbers(const char *call, struct field text) {
   if (strcmp(call, "host_flags") == 0) {
     code = uriparse_host_flags(text.at, text.len, &flags);
     prints_number(flags);
+  } else if (strcmp(call, "disagreement") == 0) {
+    code = uriparse_disagreement(text.at, text.len, &flags);
+    prints_number(flags);
   } else if (strcmp(call, "port_or_default") == 0) {
     code = uriparse_port_or_default(text.at, text.len, &port);
     prints_number((unsigned)port);
@@ -307,7 +310,7 @@ static void answer(const struct meaning *row) {
   static const char *const with_part[] = {"origin", "host_address", NULL};
   static const char *const decoding[] = {"decode", "form_decode", NULL};
   static const char *const writing[] = {"resolve", "relativize", "encode", "trim_link", "key", "page_key", NULL};
-  static const char *const with_number[] = {"host_flags", "port_or_default", "is_normalized", "is_public", "hash", NULL};
+  static const char *const with_number[] = {"host_flags", "disagreement", "port_or_default", "is_normalized", "is_public", "hash", NULL};
   static const char *const comparing[] = {"compare", "equal", "same_origin", "is_within", "host_is_within", NULL};
   const struct field text = row->values[0], other = row->values[1];
   prints("no call");

@@ -85,6 +85,7 @@ static const call_of_row calls[] = {
     {"port_number", [](auto text, auto, auto) { return shown(uriparse::reference(text).port_number()); }},
     {"host_kind", [](auto text, auto, auto) { return kind_of(text); }},
     {"host_flags", [](auto text, auto, auto) { return std::to_string(uriparse::host_flags(text)); }},
+    {"disagreement", [](auto text, auto, auto) { return std::to_string(uriparse::disagreement(text)); }},
     {"default_port", [](auto text, auto, auto) { return shown(uriparse::default_port(text)); }},
     {"port_or_default", [](auto text, auto, auto) { return shown(uriparse::port_or_default(text)); }},
     {"host_address", [](auto text, auto, auto) { return shown(uriparse::host_address(text)); }},
@@ -160,7 +161,7 @@ static std::string by_c(std::string_view name, std::string_view base, std::strin
     return shown(to.equal);
   if (name == "compare") return std::to_string(to.order);
   if (name == "port_or_default") return to.order < 0 ? "\\N" : std::to_string(to.order);
-  if (name == "host_flags") return std::to_string(to.flags);
+  if (name == "host_flags" || name == "disagreement") return std::to_string(to.flags);
   if (name == "hash") return std::to_string(to.hash);
   return std::string(reinterpret_cast<const char *>(to.out), to.needed);
 }
@@ -181,6 +182,7 @@ static void check_random(std::string_view base, std::string_view text) {
       {"is_within", [&] { return shown(uriparse::is_within(text, base)); }},
       {"host_is_within", [&] { return shown(uriparse::host_is_within(text, base)); }},
       {"host_flags", [&] { return std::to_string(uriparse::host_flags(text)); }}, {"hash", [&] { return std::to_string(uriparse::hash(text)); }},
+      {"disagreement", [&] { return std::to_string(uriparse::disagreement(text)); }},
       {"normalize", [&] { return uriparse::normalize(text); }}, {"resolve", [&] { return uriparse::resolve(base, text); }},
       {"relativize", [&] { return uriparse::relativize(base, text); }}, {"decode", [&] { return uriparse::decode(text); }},
       {"escape", [&] { return uriparse::escape(text); }}, {"encode", [&] { return uriparse::encode(URIPARSE_SEGMENT, text); }},

@@ -166,6 +166,7 @@ uint32_t proved_first_fault(const uint8_t *text, size_t len, size_t *fault) {
   }
 OF_TEXT(hash, uint64_t)
 OF_TEXT(host_flags, uint32_t)
+OF_TEXT(disagreement, uint32_t)
 OF_TEXT(is_normalized, bool)
 OF_TEXT(is_public, bool)
 OF_TEXT(is_ambiguous, bool)

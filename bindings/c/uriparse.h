@@ -111,6 +111,18 @@ enum uriparse_host_flag {
   URIPARSE_HAS_ESCAPES = 4     /* a name whose canonical spelling has an escape: "evil.org%2F.example.com" */
 };
 
+/* Why another reader, such as a browser or a library by the URL Standard, may read another URI in the same string. */
+enum uriparse_disagreement {
+  URIPARSE_OTHER_SCHEME = 1,     /* the scheme isn't http, https, ws, wss or ftp, or there is none */
+  URIPARSE_WITHOUT_HOST = 2,     /* there is no authority, or its host is empty: "http:a.example", "http:///a.example" */
+  URIPARSE_LATER_ADDRESS = 4,    /* the host is an address of a later version: "[v1.a]" */
+  URIPARSE_ESCAPED_NAME = 8,     /* the name of the host has an escape, which some readers decode */
+  URIPARSE_NUMERIC_NAME = 16,    /* the last label of the name begins with a digit: "0x7f.1", "2130706433" */
+  URIPARSE_ENCODED_NAME = 32,    /* a label of the name begins with "xn--" */
+  URIPARSE_ESCAPED_DOTS = 64,    /* a dot segment has an escape: "%2e%2e" */
+  URIPARSE_USER_INFORMATION = 128 /* there is user information, which people take for the host: "https://example.com@evil.example/" */
+};
+
 /* What a sort key is of; 0 is the reference as it is. */
 enum uriparse_key_flag {
   URIPARSE_KEY_NORMAL = 1,          /* the normal form, whose dot segments are removed; the kind of the host stays */
@@ -485,6 +497,9 @@ uint32_t uriparse_escape(uriparse_bytes text, size_t len, uriparse_buffer out, s
  * white space at the ends of what they hold, and a prefix "URL:" in any case with the white space after it. White space is a
  * space, a tab, a line feed, a form feed or a carriage return. Accepts any text; what is left may be no reference. */
 uint32_t uriparse_trim_link(uriparse_bytes text, size_t len, uriparse_buffer out, size_t room, size_t *needed);
+
+/* Reports why another reader, such as a browser, may read another URI in the same string. */
+uint32_t uriparse_disagreement(uriparse_bytes text, size_t len, uint32_t *reasons);
 
 /* What a code means, in English. */
 const char *uriparse_error_text(uint32_t code);

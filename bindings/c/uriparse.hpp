@@ -207,6 +207,9 @@ inline bool host_is_within(input text, input domain) {
 // A sum of uriparse_host_flag.
 inline std::uint32_t host_flags(input text) { return detail::read<std::uint32_t>(uriparse_host_flags, text); }
 
+// A sum of uriparse_disagreement: why another reader may read another URI in the same string.
+inline std::uint32_t disagreement(input text) { return detail::read<std::uint32_t>(uriparse_disagreement, text); }
+
 // Whether readers disagree on what a segment of a path names. Its error is that of a path, also for a '/'.
 inline bool is_ambiguous(input segment) {
   bool ambiguous = false;

@@ -110,6 +110,19 @@ uri_host_flags(PG_FUNCTION_ARGS)
 	PG_RETURN_INT32((int32) flags);
 }
 
+/* The sum of enum uriparse_disagreement. */
+PG_FUNCTION_INFO_V1(uri_disagreement);
+Datum
+uri_disagreement(PG_FUNCTION_ARGS)
+{
+	struct bytes text = argument(fcinfo, 0);
+	uint32_t	reasons;
+
+	if (uriparse_disagreement(text.at, text.len, &reasons) != URIPARSE_OK)
+		PG_RETURN_NULL();
+	PG_RETURN_INT32((int32) reasons);
+}
+
 /* Of a segment of a path. */
 PG_FUNCTION_INFO_V1(uri_is_ambiguous);
 Datum

@@ -417,6 +417,7 @@ def test_checks() -> None:
         assert uriparse.host_is_within(text, domain) is within is uriparse.host_is_within(text.encode(), domain.encode())
     assert uriparse.host_flags("//%31.2.3.4") == uriparse.HostFlag.HIDES_ADDRESS | uriparse.HostFlag.MAY_BE_NUMERIC
     assert uriparse.host_flags(b"//0x7f.1") is uriparse.HostFlag.MAY_BE_NUMERIC and not uriparse.host_flags("//example.com")
+    assert uriparse.disagreement("http://127.1/") is uriparse.Disagreement.NUMERIC_NAME and not uriparse.URI("https://h/").disagreement()
     assert uriparse.default_port("HTTPS") == 443 and uriparse.default_port(b"mailto") is None and uriparse.default_port("") is None
     for text, port in (("https://h", 443), ("https://h:", 443), ("//h:0", 0), ("//h", None), ("https:a", None)):
         assert uriparse.port_or_default(text) == port == uriparse.URI(text).port_or_default() == uriparse.port_or_default(text.encode())
@@ -635,6 +636,8 @@ def test_header(path: str) -> None:
     assert re.findall('URIPARSE_VERSION "(.*)"', header) == [uriparse.__version__]
     flags = re.search(r"enum uriparse_host_flag \{(.*?)\};", header, re.DOTALL)
     assert flags and all(int(uriparse.HostFlag[name]) == int(bit) for name, bit in re.findall(r"URIPARSE_(\w+) = (\d)", flags[1]))
+    reasons = re.search(r"enum uriparse_disagreement \{(.*?)\};", header, re.DOTALL)
+    assert reasons and all(int(uriparse.Disagreement[name]) == int(bit) for name, bit in re.findall(r"URIPARSE_(\w+) = (\d+)", reasons[1]))
     codes = {name: int(code, 0) for name, code in re.findall(r"^  URIPARSE_(\w+) = (\w+),", header[:header.index("URIPARSE_COMPONENT_MASK = ")],
                                                              re.MULTILINE)}
     assert codes == {code.name: code.value for code in uriparse.Code}

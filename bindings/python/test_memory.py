@@ -38,7 +38,7 @@ CALLS = [
     lambda: members(uriparse.URI(LONG)), lambda: hash(uriparse.URI(LONG)), lambda: URI == SAME, lambda: URI < SAME, lambda: repr(URI) + str(URI),
     lambda: dict(READ), lambda: replace(READ, host="1.2.3.4", port="8"), lambda: pickle.loads(pickle.dumps(URI)), lambda: copy.deepcopy(READ),
     lambda: uriparse.spans(LONG), lambda: uriparse.first_fault("/%4"), lambda: uriparse.is_uri(SURROGATE), lambda: uriparse.hash_of(LONG),
-    lambda: uriparse.host_flags("//%31.2.3.4"), lambda: uriparse.default_port("https"), lambda: uriparse.port_or_default(LONG),
+    lambda: uriparse.host_flags("//%31.2.3.4"), lambda: uriparse.disagreement(LONG), lambda: uriparse.default_port("https"), lambda: uriparse.port_or_default(LONG),
     lambda: str(uriparse.host_address("//[::1]")), lambda: uriparse.host_address(URI), lambda: uriparse.is_normalized(LONG), lambda: uriparse.is_public(LONG),
     lambda: uriparse.key(LONG), lambda: uriparse.normal_key(LONG.encode()), lambda: uriparse.page_key(URI), lambda: uriparse.key_many([LONG, "a b"], "page"),
     lambda: uriparse.is_ambiguous("..;a"), lambda: uriparse.same_origin(LONG, URI), lambda: uriparse.trim_link(" <URL:" + LONG + ">"),

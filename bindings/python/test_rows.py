@@ -35,6 +35,7 @@ CALLS: Dict[str, Tuple[Callable[..., Any], Tuple[str, ...]]] = {
     "check": (lambda text: bool(uriparse.parse(text) is not None), ("text",)), "is_uri": (uriparse.is_uri, ("text",)),
     "port": (lambda text: uriparse.parse(text).port, ("text",)), "port_number": (lambda text: uriparse.parse(text).port_number, ("text",)),
     "host_kind": (lambda text: uriparse.parse(text).host_kind, ("text",)), "host_flags": (lambda text: int(uriparse.host_flags(text)), ("text",)),
+    "disagreement": (lambda text: int(uriparse.disagreement(text)), ("text",)),
     "default_port": (uriparse.default_port, ("scheme",)), "origin": (uriparse.origin, ("text",)), "normalize": (uriparse.normalize, ("text",)),
     "port_or_default": (uriparse.port_or_default, ("text",)), "host_address": (host_address, ("text",)), "hash": (uriparse.hash_of, ("text",)),
     "key": (uriparse.key, ("text",)), "page_key": (uriparse.page_key, ("text",)),

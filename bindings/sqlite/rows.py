@@ -141,7 +141,7 @@ def authority_parts(text: bytes) -> Tuple[Optional[bytes], Optional[bytes], Opti
 # The function of SQL for a call of rows.tsv. It has none for a port as text, and none for a query that is no reference's. That of an
 # address, and of the values of pairs, has another form in each database.
 SQL_CALLS = {"check": "uri_valid", "is_uri": "uri_is_uri", "port_number": "uri_port", "host_kind": "uri_host_kind",
-             "host_flags": "uri_host_flags", "default_port": "uri_default_port", "origin": "uri_origin", "pairs": "uri_pairs",
+             "host_flags": "uri_host_flags", "disagreement": "uri_disagreement", "default_port": "uri_default_port", "origin": "uri_origin", "pairs": "uri_pairs",
              "pair": "uri_param", "with_pair": "uri_with_param", "with_appended_pair": "uri_with_appended_param",
              "without_pairs": "uri_without_params", "without_pair": "uri_without_param", "host_is_within": "uri_host_is_within",
              "is_within": "uri_is_within", "resolve": "uri_resolve", "relativize": "uri_relativize", "equal": "uri_equal",

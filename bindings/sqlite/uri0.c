@@ -207,6 +207,15 @@ static void host_flags(sqlite3_context *context, int count, sqlite3_value **valu
     sqlite3_result_int64(context, flags);
 }
 
+/* The sum of enum uriparse_disagreement. */
+static void disagreement(sqlite3_context *context, int count, sqlite3_value **values) {
+  struct text text;
+  uint32_t reasons;
+  (void)count;
+  if (read_text(context, values[0], &text) && uriparse_disagreement(text.at, text.len, &reasons) == URIPARSE_OK)
+    sqlite3_result_int64(context, reasons);
+}
+
 /* Of a segment of a path. */
 static void is_ambiguous(sqlite3_context *context, int count, sqlite3_value **values) {
   struct text segment;
@@ -799,6 +808,7 @@ static const struct {
   {"uri_replace", 3, replace, NULL},       {"uri_compare", 2, compare, NULL},
   {"uri_is_within", 2, is_within, NULL},   {"uri_host_is_within", 2, host_is_within, NULL},
   {"uri_default_port", 1, default_port, NULL}, {"uri_host_flags", 1, host_flags, NULL},
+  {"uri_disagreement", 1, disagreement, NULL},
   {"uri_is_uri", 1, is_uri, NULL},         {"uri_param", 2, param, NULL},
   {"uri_with_param", 3, with_param, NULL}, {"uri_with_appended_param", 3, with_appended_param, NULL},
   {"uri_without_param", 2, without_param, NULL}, {"uri_without_params", -1, without_params, NULL},

@@ -198,6 +198,8 @@ static void print_call(int which, const char *base, size_t base_len, const char 
     printf(",\"compare\":\"%d\"", (int)to.order);
   } else if (strcmp(name, "host_flags") == 0 && code == URIPARSE_OK) {
     printf(",\"host_flags\":\"%u\"", to.flags);
+  } else if (strcmp(name, "disagreement") == 0 && code == URIPARSE_OK) {
+    printf(",\"disagreement\":\"%u\"", to.flags);
   } else if (strcmp(name, "hash") == 0 && code == URIPARSE_OK) {
     printf(",\"hash\":\"%llu\"", (unsigned long long)to.hash);
   } else if (strcmp(name, "port_or_default") == 0 && code == URIPARSE_OK) {

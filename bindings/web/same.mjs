@@ -35,6 +35,8 @@ function flags(text) {
   return String(hidesAddress + 2 * mayBeNumeric + 4 * hasEscapes);
 }
 
+const sumOf = (flags) => Object.values(flags).reduce((sum, isSet, at) => sum + (isSet ? 1 << at : 0), 0);
+
 // The query of a reference whose pairs are edited.
 const edited = (call, ...words) => result(() => uris.parse(call(...words)).query);
 
@@ -76,7 +78,7 @@ function row(number, base, text) {
     origin: result(() => uris.origin(text) ?? NO_ORIGIN), relativize: result(() => uris.relativize(base, text)),
     change: result(() => uris.replace(text, { query: base, port: null })), compare: result(() => String(uris.compare(base, text))),
     is_within: result(() => uris.isWithin(text, base)), host_is_within: result(() => uris.hostIsWithin(text, base)),
-    host_flags: result(() => flags(text)), default_port: uris.defaultPort(text) ?? 0, resolve: result(() => uris.resolve(base, text)),
+    disagreement: result(() => String(sumOf(uris.disagreement(text)))), host_flags: result(() => flags(text)), default_port: uris.defaultPort(text) ?? 0, resolve: result(() => uris.resolve(base, text)),
     pairs: uris.pairs(text), encode: [null, ...["username", "password", "segment", "query", "fragment", "pair"].map((name) => [name, uris.encode(name, text)])],
     ...(fault ? {} : edits(base, text)),
   };

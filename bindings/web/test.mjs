@@ -358,6 +358,7 @@ const decoded = (text) => spelled(uris.decode(text));
 const SHARED = {
   check: [(text) => Boolean(uris.parse(text)), "text"], is_uri: [uris.isURI], port: [(text) => uris.parse(text).port, "text"],
   port_number: [(text) => uris.parse(text).portNumber, "text"], host_kind: [(text) => uris.parse(text).hostKind, "text"],
+  disagreement: [(text) => Object.values(uris.disagreement(text)).reduce((sum, isSet, at) => sum + (isSet ? 1 << at : 0), 0), "text"],
   host_flags: [flagsOf, "text"], default_port: [uris.defaultPort], origin: [uris.origin, "text"], normalize: [uris.normalize, "text"],
   pairs: [listedPairs, "text"], pair: [uris.pair, "text"], with_pair: [uris.withPair, "text"], with_appended_pair: [uris.withAppendedPair, "text"],
   without_pairs: [uris.withoutPairs, "text", "names"], without_pair: [uris.withoutPair, "text"], host_is_within: [uris.hostIsWithin, "text", "domain"],

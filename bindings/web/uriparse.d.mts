@@ -60,6 +60,25 @@ export interface HostFlags {
   hasEscapes: boolean;
 }
 
+/** Why another reader, such as `URL`, may read another URI in the same string. */
+export interface Disagreement {
+  /** The scheme isn't http, https, ws, wss or ftp, or there is none. */
+  otherScheme: boolean;
+  /** There is no authority, or its host is empty. */
+  withoutHost: boolean;
+  /** The host is an address of a later version, as `[v1.a]`. */
+  laterAddress: boolean;
+  /** The name of the host has an escape. */
+  escapedName: boolean;
+  /** The last label of the host's name begins with a digit. */
+  numericName: boolean;
+  /** A label of the host's name begins with `xn--`. */
+  encodedName: boolean;
+  /** A dot segment has an escape, as `%2e%2e`. */
+  escapedDots: boolean;
+  userInformation: boolean;
+}
+
 /** A string, or an object that has one, such as a `URL`. Another value is a `TypeError`. */
 export type Input = string | { readonly href: string };
 
@@ -95,6 +114,8 @@ export interface URIs {
   isWithin(uri: Input, base: Input): boolean;
   hostIsWithin(text: Input, domain: string): boolean;
   hostFlags(text: Input): HostFlags;
+  /** Why another reader may read another URI in the same string. */
+  disagreement(text: Input): Disagreement;
   /** The segment has no "/". */
   isAmbiguous(segment: string): boolean;
   portOrDefault(text: Input): number | null;

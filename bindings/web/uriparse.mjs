@@ -86,6 +86,8 @@ const NEXT = 2 * SPAN;
 const HIDES_ADDRESS = 1;
 const MAY_BE_NUMERIC = 2;
 const HAS_ESCAPES = 4;
+// Why readers may disagree: a bit for each, from the first on.
+const DISAGREEMENTS = ["otherScheme", "withoutHost", "laterAddress", "escapedName", "numericName", "encodedName", "escapedDots", "userInformation"];
 // Of the reference as it is, of its normal form, and of that without a default port and a fragment.
 const KEYS = { exact: 0, normal: 1, page: 7 };
 
@@ -550,6 +552,12 @@ class URIs {
   hostFlags(text) {
     const flags = this.#word(this.#ofOne("uriparse_host_flags", text));
     return { hidesAddress: (flags & HIDES_ADDRESS) !== 0, mayBeNumeric: (flags & MAY_BE_NUMERIC) !== 0, hasEscapes: (flags & HAS_ESCAPES) !== 0 };
+  }
+
+  /** Why another reader may read another URI in the same string. */
+  disagreement(text) {
+    const reasons = this.#word(this.#ofOne("uriparse_disagreement", text));
+    return Object.fromEntries(DISAGREEMENTS.map((name, at) => [name, (reasons & (1 << at)) !== 0]));
   }
 
   /** The default port of a scheme, or null. */

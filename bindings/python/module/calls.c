@@ -250,6 +250,13 @@ static PyObject *answer_host_flags(const struct state *state, const struct text 
   return *code ? NULL : PyLong_FromUnsignedLong(flags);
 }
 
+static PyObject *answer_disagreement(const struct state *state, const struct text *text, uint32_t *code) {
+  uint32_t reasons = 0;
+  (void)state;
+  *code = uriparse_disagreement(text->bytes, text->len, &reasons);
+  return *code ? NULL : PyLong_FromUnsignedLong(reasons);
+}
+
 static PyObject *answer_is_normalized(const struct state *state, const struct text *text, uint32_t *code) {
   bool answer = false;
   (void)state;
@@ -310,6 +317,7 @@ ANSWER(is_normalized, "text", OR_URI, text_fault, answer_is_normalized)
 ANSWER(is_public, "text", OR_URI, text_fault, answer_is_public)
 ANSWER(hash_of, "text", OR_URI, text_fault, answer_hash)
 ANSWER(host_flags, "text", OR_URI, text_fault, answer_host_flags)
+ANSWER(disagreement, "text", OR_URI, text_fault, answer_disagreement)
 ANSWER(host_address, "text", OR_URI, text_fault, answer_host_address)
 ANSWER(port_or_default, "text", OR_URI, text_fault, answer_port_or_default)
 ANSWER(default_port, "scheme", PLAIN, text_fault, answer_default_port)
@@ -343,6 +351,9 @@ PyMethodDef call_methods[] = {
     METHOD("host_flags", host_flags,
            "host_flags($module, /, text)\n--\n\n"
            "What the host of a reference may be taken for."),
+    METHOD("disagreement", disagreement,
+           "disagreement($module, /, text)\n--\n\n"
+           "Why another reader may read another URI in the same string."),
     METHOD("host_address", host_address,
            "host_address($module, /, text)\n--\n\n"
            "The bytes of the IPv4 or IPv6 address that is the host, or None."),

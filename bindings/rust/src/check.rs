@@ -158,6 +158,29 @@ macro_rules! checks {
                 $crate::sys::is_public(self.as_str().as_bytes())
             }
 
+            /// Whether another reader, such as a browser or a library by the URL Standard, may read another URI in the same string for
+            /// this reason.
+            #[must_use]
+            pub fn disagrees(&self, reason: $crate::Disagreement) -> bool {
+                $crate::sys::disagreement(self.as_str().as_bytes()) & reason as u32 != 0
+            }
+
+            /// Why another reader may read another URI in the same string: the first reason. `None` if readers by the URL Standard have the
+            /// same scheme, host, port, path, query and fragment and there is no user information.
+            ///
+            /// ```
+            /// use uriparse_rattle::{Disagreement, UriRef};
+            ///
+            /// assert_eq!(UriRef::parse("https://example.com/a")?.disagreement(), None);
+            /// assert_eq!(UriRef::parse("http:///example.com/a")?.disagreement(), Some(Disagreement::WithoutHost));
+            /// # Ok::<(), uriparse_rattle::Error>(())
+            /// ```
+            #[must_use]
+            pub fn disagreement(&self) -> Option<$crate::Disagreement> {
+                let reasons = $crate::sys::disagreement(self.as_str().as_bytes());
+                $crate::Disagreement::ALL.into_iter().find(|reason| reasons & *reason as u32 != 0)
+            }
+
             /// Whether the host is a name whose canonical spelling is that of an IPv4 address, as `%31.2.3.4`.
             #[must_use]
             pub fn hides_address(&self) -> bool {
@@ -202,6 +225,41 @@ checks!(Uri<'_>);
 checks!(UriRefBuf);
 #[cfg(feature = "alloc")]
 checks!(UriBuf);
+
+/// Why another reader, such as a browser or a library by the URL Standard, may read another URI in the same string.
+#[derive(Clone, Copy, Debug, PartialEq, Eq, Hash)]
+pub enum Disagreement {
+    /// The scheme isn't `http`, `https`, `ws`, `wss` or `ftp`, or there is none.
+    OtherScheme = 1,
+    /// There is no authority, or its host is empty: `http:a.example`, `http:///a.example`.
+    WithoutHost = 2,
+    /// The host is an address of a later version: `[v1.a]`.
+    LaterAddress = 4,
+    /// The name of the host has an escape, which some readers decode.
+    EscapedName = 8,
+    /// The last label of the host's name begins with a digit: `0x7f.1`, `2130706433`.
+    NumericName = 16,
+    /// A label of the host's name begins with `xn--`.
+    EncodedName = 32,
+    /// A dot segment has an escape: `%2e%2e`.
+    EscapedDots = 64,
+    /// There is user information, which people take for the host: `https://example.com@evil.example/`.
+    UserInformation = 128,
+}
+
+impl Disagreement {
+    /// All of them, in the order in which `disagreement` looks for the first.
+    pub const ALL: [Disagreement; 8] = [
+        Disagreement::OtherScheme,
+        Disagreement::WithoutHost,
+        Disagreement::LaterAddress,
+        Disagreement::EscapedName,
+        Disagreement::NumericName,
+        Disagreement::EncodedName,
+        Disagreement::EscapedDots,
+        Disagreement::UserInformation,
+    ];
+}
 
 /// The address that is the host of a reference.
 #[cfg(feature = "std")]

@@ -28,7 +28,7 @@ mod sort_key;
 #[allow(unsafe_code)]
 mod sys;
 
-pub use check::{default_port, is_ambiguous};
+pub use check::{default_port, is_ambiguous, Disagreement};
 #[cfg(feature = "alloc")]
 pub use coding::{decode, encode, escape, form_decode, trim_link, Encoding};
 #[cfg(feature = "alloc")]

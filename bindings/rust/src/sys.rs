@@ -131,6 +131,7 @@ extern "C" {
         within: *mut bool,
     ) -> u32;
     fn uriparse_host_flags(text: *const u8, len: usize, flags: *mut u32) -> u32;
+    fn uriparse_disagreement(text: *const u8, len: usize, reasons: *mut u32) -> u32;
     fn uriparse_is_public(text: *const u8, len: usize, is_public: *mut bool) -> u32;
     fn uriparse_is_ambiguous(segment: *const u8, len: usize, ambiguous: *mut bool) -> u32;
     fn uriparse_port_or_default(text: *const u8, len: usize, port: *mut i32) -> u32;
@@ -456,6 +457,14 @@ pub(crate) fn host_flags(text: &[u8]) -> u32 {
     // SAFETY: the slice is a text, and `flags` is writable. On an error it keeps its value.
     unsafe { uriparse_host_flags(text.as_ptr(), text.len(), &mut flags) };
     flags
+}
+
+/// The flags of the reasons for which readers may disagree on a reference, or 0 for another text.
+pub(crate) fn disagreement(text: &[u8]) -> u32 {
+    let mut reasons = 0;
+    // SAFETY: the slice is a text, and `reasons` is writable. On an error it keeps its value.
+    unsafe { uriparse_disagreement(text.as_ptr(), text.len(), &mut reasons) };
+    reasons
 }
 
 /// Whether a segment of a path is ambiguous, or the code of its error.

@@ -6,6 +6,7 @@ use std::hash::{Hash, Hasher};
 use std::net::IpAddr;
 use std::path::Path;
 use uriparse_rattle::{
+    Disagreement,
     decode, default_port, encode, form_decode, is_ambiguous, trim_link, Change, Changes, Component,
     Encoding, Error, ErrorKind, HostKind, KeyForm, Uri, UriRef, UriRefBuf,
 };
@@ -84,6 +85,11 @@ fn kind_of(uri: UriRef<'_>) -> Bytes {
 fn flags_of(uri: UriRef<'_>) -> Bytes {
     let flags = [uri.hides_address(), uri.may_be_numeric(), uri.has_escapes()];
     shown((0..3).map(|at| u32::from(flags[at]) << at).sum::<u32>())
+}
+
+fn disagreement_of(uri: UriRef<'_>) -> Bytes {
+    let reasons = Disagreement::ALL.into_iter().filter(|reason| uri.disagrees(*reason));
+    shown(reasons.map(|reason| reason as u32).sum::<u32>())
 }
 
 fn pairs_of(uri: UriRef<'_>) -> Bytes {
@@ -186,6 +192,7 @@ fn answer_of_one(call: &str, text: &[u8]) -> Option<Result<Bytes, Error>> {
         "port_number" => read(|uri| uri.port_number().and_then(shown)),
         "host_kind" => read(kind_of),
         "host_flags" => read(flags_of),
+        "disagreement" => read(disagreement_of),
         "default_port" => Ok(default_port(plain()).and_then(shown)),
         "origin" => origin_of(text),
         "normalize" => read(|uri| shown(uri.normalize())),

@@ -65,6 +65,7 @@ extern "C" {
         within: *mut bool,
     ) -> u32;
     fn uriparse_host_flags(text: *const u8, len: usize, flags: *mut u32) -> u32;
+    fn uriparse_disagreement(text: *const u8, len: usize, reasons: *mut u32) -> u32;
     fn uriparse_is_public(text: *const u8, len: usize, is_public: *mut bool) -> u32;
     fn uriparse_is_ambiguous(segment: *const u8, len: usize, ambiguous: *mut bool) -> u32;
     fn uriparse_port_or_default(text: *const u8, len: usize, port: *mut i32) -> u32;
@@ -306,6 +307,10 @@ fn check_reference(uri: UriRef<'_>, base: &str) {
     let own = [uri.hides_address(), uri.may_be_numeric(), uri.has_escapes()];
     let sum = (0..3).map(|at| u32::from(own[at]) << at).sum();
     assert_eq!(flags, Ok(sum), "{text}");
+    // SAFETY: as above.
+    let reasons = asked(|out| unsafe { uriparse_disagreement(a, text.len(), out) });
+    let own = uriparse_rattle::Disagreement::ALL.into_iter().filter(|reason| uri.disagrees(*reason));
+    assert_eq!(reasons, Ok(own.map(|reason| reason as u32).sum()), "{text}");
     // SAFETY: as above.
     let normalized = asked(|out| unsafe { uriparse_is_normalized(a, text.len(), out) });
     assert_eq!(normalized, Ok(uri.is_normalized()), "{text}");

@@ -51,6 +51,13 @@ pub fn print_normal_form<O: Write, E: Write>(
     run(alloc, &["normalize", "--", text], out, err)
 }
 
+/// Prints why readers may disagree on a reference.
+pub fn print_audit<O: Write, E: Write>(alloc: Global, text: &str, out: &mut O, err: &mut E) -> u8
+    ensures { spec.Ends (spec.Audits text.now) (O.contents out.old) (O.contents out.new) result }
+{
+    run(alloc, &["audit", "--", text], out, err)
+}
+
 /// Prints the sort key of a reference.
 pub fn print_key<O: Write, E: Write>(alloc: Global, text: &str, out: &mut O, err: &mut E) -> u8
     ensures { spec.Ends (spec.Keys text.now) (O.contents out.old) (O.contents out.new) result }

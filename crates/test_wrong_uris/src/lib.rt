@@ -10,6 +10,7 @@ ghost use Rattle.uriparse_reference.specs.Ports.{port_or_default};
 ghost use Rattle.uriparse_reference.specs.Reference.{Parts, Spells, host_of, print};
 ghost use Rattle.uriparse_reference.specs.Relate.{relative};
 ghost use Rattle.uriparse_reference.specs.Target.{target};
+ghost use Rattle.uriparse.specs.Disagreement as readers;
 ghost use Rattle.uriparse.specs.File as files;
 ghost use Rattle.uriparse.specs.Kinds.{fault_of, of_kind};
 ghost use Rattle.uriparse.specs.Origin as origins;
@@ -23,7 +24,7 @@ ghost use Rattle.uriparse.specs.declared.uri.error.URIError.TheVariants as error
 use std::alloc::{AllocError, Global};
 use uriparse::file::{FileError, from_path, to_path};
 use uriparse::{
-    BufferError, Host, KeyForm, Origin, Query, ReferenceView, URI, URIBuilder, URIError,
+    BufferError, Disagreement, Host, KeyForm, Origin, Query, ReferenceView, URI, URIBuilder, URIError,
     URIReference, URIView, sort_key_into, sort_key_to_string,
 };
 
@@ -171,4 +172,32 @@ pub fn exact_key(alloc: Global, view: &ReferenceView<'_>) -> Result<String, Allo
     ensures { IfOk result (λ s. string_bytes s ≡ keys.sort_key view.now.parts) }
 {
     sort_key_to_string(alloc, view, KeyForm::EXACT)
+}
+
+/// Whether readers may disagree on a URI for this reason.
+pub fn disagrees(uri: &URIView<'_>, reason: Disagreement) -> bool
+    ensures { result ≡ readers.disagrees reason uri.now.parts }
+{
+    uri.disagrees(reason)
+}
+
+/// The first reason for which readers may disagree on a URI.
+pub fn disagreement(uri: &URIView<'_>) -> Option<Disagreement>
+    ensures { result ≡ readers.disagreement uri.now.parts }
+{
+    uri.disagreement()
+}
+
+/// The same of a value.
+pub fn disagreement_of_value(value: &URI<'_>) -> Option<Disagreement>
+    ensures { result ≡ readers.disagreement value.now }
+{
+    value.disagreement()
+}
+
+/// Whether readers agree on where a reference leads.
+pub fn leads_alike(base: &URIView<'_>, reference: &ReferenceView<'_>) -> bool
+    ensures { result ≡ readers.leads_alike base.now.parts reference.now.parts }
+{
+    base.leads_alike(reference)
 }

@@ -11,6 +11,7 @@ use Rattle.std.proofs.Math.Seq.{take-append_seam}
 use Rattle.std.specs.Io.KnownBytes.{Appends}
 use Rattle.std.proofs.KnownBytes.{Appends-nil, Appends-trans}
 use Rattle.uriparse.specs.Bytes.{equals_sign}
+use Rattle.uriparse.specs.Disagreement.{disagreement}
 use Rattle.uriparse.specs.BufferError.{BufferError}
 use Rattle.uriparse.specs.BufferError.TheVariants as buffers
 use Rattle.uriparse.specs.Class.{Class}
@@ -55,7 +56,7 @@ use Rattle.uriparse.specs.declared.uri.error.URIError.{URIError}
 use Rattle.uriparse.specs.declared.uri.error.URIError.TheVariants as uris
 use Rattle.uri_commands.specs.Columns.{tab}
 use Rattle.uri_commands.specs.Edits.{steps_made}
-use Rattle.uri_commands.specs.Output.{Answer, AnswersLine, Checks, ChecksAgainst, ChecksEqual, Compares, ComparesWith, Decodes, Does, EditsLine, Encodes, Ended, EndsWork, Escapes, Files, Finds, EscapesLink, Gets, GetsFile, GetsOrEmpty, GetsParts, GetsPair, GetsPairOrEmpty, HasHostUnder, HostWithin, IfSo, IsBelow, IsOfBuffer, IsOfReference, IsOfUri, IsUnder, Keys, LacksTarget, LeadsTo, Normalizes, NormalizesPort, OfPair, OfReference, OfUri, Pairs, ParsesJson, Prints, PrintsHostWithin, PrintsIfPresent, PrintsPairs, PrintsWithin, Relativizes, RelativizesAgainst, Resolves, ResolvesAgainst, Within, Writes, WritesIfPresent, answer_of, class_of, equal_or_different, line, line_if, nothing_if, pair_lines, part_text}
+use Rattle.uri_commands.specs.Output.{Answer, AnswersLine, Audits, reason_word, Checks, ChecksAgainst, ChecksEqual, Compares, ComparesWith, Decodes, Does, EditsLine, Encodes, Ended, EndsWork, Escapes, Files, Finds, EscapesLink, Gets, GetsFile, GetsOrEmpty, GetsParts, GetsPair, GetsPairOrEmpty, HasHostUnder, HostWithin, IfSo, IsBelow, IsOfBuffer, IsOfReference, IsOfUri, IsUnder, Keys, LacksTarget, LeadsTo, Normalizes, NormalizesPort, OfPair, OfReference, OfUri, Pairs, ParsesJson, Prints, PrintsHostWithin, PrintsIfPresent, PrintsPairs, PrintsWithin, Relativizes, RelativizesAgainst, Resolves, ResolvesAgainst, Within, Writes, WritesIfPresent, answer_of, class_of, equal_or_different, line, line_if, nothing_if, pair_lines, part_text}
 use Rattle.uri_commands.specs.Output.{Negative, Printed, Rejected, Unknown}
 use Rattle.uri_commands.specs.declared.commands.Task.{Task}
 use Rattle.uri_commands.specs.declared.commands.Task.TheVariants as tasks
@@ -137,6 +138,12 @@ pub keyed : (t : List ℕ) (p : Parts) (bytes : List ℕ) (a b : Known) (r : Don
     → Spells t p → bytes ≡ sort_key p → Writes (line bytes) a b r → Does (Keys t) a b r
 keyed t p bytes a b r spelled is written =
     of_reference t p (λ q. Prints (sort_key q)) a b r spelled (answered (Prints (sort_key p)) (line bytes) a b r (ap (λ x. Printed (line x)) is) written)
+
+pub audited : (t : List ℕ) (p : Parts) (bytes : List ℕ) (a b : Known) (r : Done)
+    → Spells t p → bytes ≡ reason_word (disagreement p) → Writes (line bytes) a b r → Does (Audits t) a b r
+audited t p bytes a b r spelled is written =
+    of_reference t p (λ q. Prints (reason_word (disagreement q))) a b r spelled
+    (answered (Prints (reason_word (disagreement p))) (line bytes) a b r (ap (λ x. Printed (line x)) is) written)
 
 pub compared : (t : List ℕ) (p q : Parts) (a b : Known) (r : Done)
     → Spells t q → Writes (line (equal_or_different (bytes_eq (key p) (key q)))) a b r → Does (ComparesWith p t) a b r
@@ -729,6 +736,9 @@ run_normalize_port task t a b r is done = subst (λ w. AnswersTask w t a b r) (s
 
 pub run_key : (task : Task) (t : List ℕ) (a b : Known) (r : Done) → task ≡ tasks.Key → Does (Keys t) a b r → Does (λ x. AnswersLine task t x) a b r
 run_key task t a b r is done = subst (λ w. AnswersTask w t a b r) (sym is) done
+
+pub run_audit : (task : Task) (t : List ℕ) (a b : Known) (r : Done) → task ≡ tasks.Audit → Does (Audits t) a b r → Does (λ x. AnswersLine task t x) a b r
+run_audit task t a b r is done = subst (λ w. AnswersTask w t a b r) (sym is) done
 
 pub run_equal : (task : Task) (t : List ℕ) (a b : Known) (r : Done) → task ≡ tasks.Equal → Does (OfPair t Compares) a b r → Does (λ x. AnswersLine task t x) a b r
 run_equal task t a b r is done = subst (λ w. AnswersTask w t a b r) (sym is) done

@@ -98,6 +98,7 @@ plain_many name x y z more =
     (either (bytes_eq name (codes "get")) _ _ _ refl
     (either (bytes_eq name (codes "normalize")) _ _ _ refl
     (either (bytes_eq name (codes "key")) _ _ _ refl
+    (either (bytes_eq name (codes "audit")) _ _ _ refl
     (either (bytes_eq name (codes "equal")) _ _ _ refl
     (either (bytes_eq name (codes "resolve")) _ _ _ refl
     (either (bytes_eq name (codes "relativize")) _ _ _ refl
@@ -111,7 +112,7 @@ plain_many name x y z more =
     (either (bytes_eq name (codes "file")) _ _ _ refl
     (either (bytes_eq name (codes "help")) _ _ _ refl
     (either (bytes_eq name (codes "--version")) _ _ _ refl
-    refl))))))))))))))))))
+    refl)))))))))))))))))))
 
 many : (mode : Mode) (name x y z : List ℕ) (more : List (List ℕ)) → AnswersTo mode name (x ∷ y ∷ z ∷ more) Unknown
 many modes.Plain name x y z more = plain_many name x y z more

@@ -131,6 +131,7 @@ named_many name t u more =
     (either (bytes_eq name (codes "get")) _ _ _ refl
     (either (bytes_eq name (codes "normalize")) _ _ _ refl
     (either (bytes_eq name (codes "key")) _ _ _ refl
+    (either (bytes_eq name (codes "audit")) _ _ _ refl
     (either (bytes_eq name (codes "equal")) _ _ _ refl
     (either (bytes_eq name (codes "resolve")) _ _ _ refl
     (either (bytes_eq name (codes "relativize")) _ _ _ refl
@@ -138,7 +139,7 @@ named_many name t u more =
     (either (bytes_eq name (codes "pair")) _ _ _ refl
     (either (bytes_eq name (codes "within")) _ _ _ refl
     (either (bytes_eq name (codes "host-within")) _ _ _ refl
-    refl)))))))))))
+    refl))))))))))))
 
 pub many : (mode : Mode) (name t u : List ℕ) (more : List (List ℕ)) → TasksTo mode name (t ∷ u ∷ more) (Err Unknown)
 many modes.Plain name t u more = named_many name t u more

@@ -2,6 +2,7 @@
 use Rattle.std.specs.Prelude.{ℕ, List, [], ◌∷◌, bytes_eq, Option}
 use Rattle.std.specs.List.{find}
 use Rattle.std.specs.Option.{option_map}
+use Rattle.uri_commands.specs.declared.audit.TheConstants.{ABOUT as audit}
 use Rattle.uri_commands.specs.declared.columns.TheConstants.{ABOUT_ALIGN as align, ABOUT_COLUMN as column, ABOUT_APPEND as append, ABOUT_NULL as null}
 use Rattle.uri_commands.specs.declared.decode.TheConstants.{ABOUT as decode}
 use Rattle.uri_commands.specs.declared.edit.TheConstants.{ABOUT as edit}
@@ -48,6 +49,7 @@ topics =
     ∷ about equal
     ∷ about within
     ∷ about host
+    ∷ about audit
     ∷ about normalize
     ∷ about key
     ∷ about resolve

@@ -114,7 +114,7 @@ is_help word = bytes_eq word (codes "-h") || bytes_eq word (codes "--help")
 abbrev pub commands : List (List ℕ)
 commands =
     codes "parse" ∷ codes "tail" ∷ codes "get" ∷ codes "pairs" ∷ codes "pair" ∷ codes "equal" ∷ codes "within" ∷ codes "host-within"
-    ∷ codes "normalize" ∷ codes "key" ∷ codes "resolve" ∷ codes "relativize" ∷ codes "edit" ∷ codes "file" ∷ codes "escape" ∷ codes "encode"
+    ∷ codes "audit" ∷ codes "normalize" ∷ codes "key" ∷ codes "resolve" ∷ codes "relativize" ∷ codes "edit" ∷ codes "file" ∷ codes "escape" ∷ codes "encode"
     ∷ codes "decode" ∷ codes "help" ∷ []
 
 abbrev pub is_command : List ℕ → Bool

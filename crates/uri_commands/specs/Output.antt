@@ -31,6 +31,9 @@ use Rattle.uriparse.specs.Path.{PathParts}
 use Rattle.uriparse.specs.PathFaults as paths
 use Rattle.uriparse.specs.PathError.TheVariants.{ExceededMaximumLength, OutOfMemory}
 use Rattle.uriparse.specs.Ports.{without_default_port}
+use Rattle.uriparse.specs.Disagreement.{disagreement}
+use Rattle.uriparse.specs.declared.uri.disagreement.Disagreement.{Disagreement}
+use Rattle.uriparse.specs.declared.uri.disagreement.Disagreement.TheVariants as reasons
 use Rattle.uriparse.specs.Query as query
 use Rattle.uriparse.specs.Reading.{fault}
 use Rattle.uriparse.specs.Reference.{Parts, Spells, authority_part, host_of, password_of, port_of, print, scheme_part, username_of}
@@ -228,6 +231,21 @@ Normalizes t = OfReference t (λ p. Prints (print (normal p)))
 abbrev pub Keys : List ℕ → Answer → Type 0
 Keys t = OfReference t (λ p. Prints (sort_key p))
 
+-- audit: the first reason why readers may disagree
+abbrev pub reason_word : Option Disagreement → List ℕ
+reason_word None = codes "agree"
+reason_word (Some reasons.Scheme) = codes "scheme"
+reason_word (Some reasons.NoHost) = codes "no-host"
+reason_word (Some reasons.LaterAddress) = codes "later-address"
+reason_word (Some reasons.EscapedName) = codes "escaped-name"
+reason_word (Some reasons.NumericName) = codes "numeric-name"
+reason_word (Some reasons.EncodedName) = codes "encoded-name"
+reason_word (Some reasons.EscapedDots) = codes "escaped-dots"
+reason_word (Some reasons.UserInformation) = codes "user-information"
+
+abbrev pub Audits : List ℕ → Answer → Type 0
+Audits t = OfReference t (λ p. Prints (reason_word (disagreement p)))
+
 -- equal: whether two references are equal
 abbrev pub equal_or_different : Bool → List ℕ
 equal_or_different true = codes "equal"
@@ -374,6 +392,7 @@ AnswersLine (tasks.GetParts parts) t = GetsParts parts.items t
 AnswersLine tasks.Normalize t = Normalizes t
 AnswersLine tasks.NormalizePort t = NormalizesPort t
 AnswersLine tasks.Key t = Keys t
+AnswersLine tasks.Audit t = Audits t
 AnswersLine tasks.Equal t = OfPair t Compares
 AnswersLine tasks.CheckEqual t = OfPair t ChecksEqual
 AnswersLine (tasks.Resolve base) t = ResolvesAgainst base.parts t
@@ -440,6 +459,7 @@ AnswersNamed name texts =
     when bytes_eq name (codes "get") then OnTexts GetsNamed texts else
     when bytes_eq name (codes "normalize") then OnText Normalizes texts else
     when bytes_eq name (codes "key") then OnText Keys texts else
+    when bytes_eq name (codes "audit") then OnText Audits texts else
     when bytes_eq name (codes "equal") then OnTexts Compares texts else
     when bytes_eq name (codes "resolve") then OnTexts Resolves texts else
     when bytes_eq name (codes "relativize") then OnTexts Relativizes texts else
@@ -498,8 +518,8 @@ Answers options words = when is_for_lines options || not (may_explain options wo
 -- the names of the commands that print something
 abbrev pub printing : List (List ℕ)
 printing =
-    codes "parse" ∷ codes "tail" ∷ codes "get" ∷ codes "normalize" ∷ codes "key" ∷ codes "equal" ∷ codes "resolve"
-    ∷ codes "relativize" ∷ codes "decode" ∷ codes "encode" ∷ codes "escape" ∷ codes "pairs" ∷ codes "pair" ∷ codes "file"
+    codes "parse" ∷ codes "tail" ∷ codes "get" ∷ codes "normalize" ∷ codes "key" ∷ codes "audit" ∷ codes "equal"
+    ∷ codes "resolve" ∷ codes "relativize" ∷ codes "decode" ∷ codes "encode" ∷ codes "escape" ∷ codes "pairs" ∷ codes "pair" ∷ codes "file"
     ∷ codes "edit" ∷ codes "help" ∷ codes "--version" ∷ []
 
 -- whether the command of this name prints something

@@ -93,6 +93,7 @@ TasksNamed name texts =
     when bytes_eq name (codes "get") then OnWord NamesGet texts else
     when bytes_eq name (codes "normalize") then Alone (Names tasks.Normalize) texts else
     when bytes_eq name (codes "key") then Alone (Names tasks.Key) texts else
+    when bytes_eq name (codes "audit") then Alone (Names tasks.Audit) texts else
     when bytes_eq name (codes "equal") then Alone (Names tasks.Equal) texts else
     when bytes_eq name (codes "resolve") then OnWord NamesResolve texts else
     when bytes_eq name (codes "relativize") then OnWord NamesRelativize texts else

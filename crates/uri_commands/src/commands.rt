@@ -9,6 +9,7 @@ ghost use Rattle.uri_commands.specs.Outputs.{count_of, width_of};
 ghost use Rattle.uri_commands.specs.declared.options.Mode.TheVariants.{Plain};
 ghost use Rattle.uri_commands.specs.Tasks.{NamesEdit, NamesGet, Reads, Tasks, TasksAny, TasksNamed, TasksTo, takes_memory};
 
+use crate::audit::{self, audit};
 use crate::decode::{self, decode};
 use crate::edit::{self, Step, edit, edit_line, read_edits};
 use crate::encode::{self, encode};
@@ -40,7 +41,7 @@ use uriparse::{Host, URI, URIReference, URIView};
 /// static table.
 #[tactic(auto, unfolding(crate::specs::Help::topics))]
 pub fn topic(place: usize) -> Option<&'static Topic>
-    ensures bound { IfSome result (λ _. place < 28) }
+    ensures bound { IfSome result (λ _. place < 29) }
     ensures topic { option_map (λ t. record { name = t.now.0.now; page = t.now.1.now }) result ≡ slice_get topics place }
 {
     match place {
@@ -52,26 +53,27 @@ pub fn topic(place: usize) -> Option<&'static Topic>
         5 => Some(&equal::ABOUT),
         6 => Some(&within::ABOUT),
         7 => Some(&within::ABOUT_HOST),
-        8 => Some(&normalize::ABOUT),
-        9 => Some(&key::ABOUT),
-        10 => Some(&resolve::ABOUT),
-        11 => Some(&relativize::ABOUT),
-        12 => Some(&edit::ABOUT),
-        13 => Some(&file::ABOUT),
-        14 => Some(&escape::ABOUT),
-        15 => Some(&encode::ABOUT),
-        16 => Some(&decode::ABOUT),
-        17 => Some(&help::ABOUT),
-        18 => Some(&json::ABOUT),
-        19 => Some(&quiet::ABOUT),
-        20 => Some(&explain::ABOUT),
-        21 => Some(&normalize::ABOUT_DROP_DEFAULT_PORT),
-        22 => Some(&escape::ABOUT_TRIM),
-        23 => Some(&lines::ABOUT),
-        24 => Some(&columns::ABOUT_ALIGN),
-        25 => Some(&columns::ABOUT_COLUMN),
-        26 => Some(&columns::ABOUT_APPEND),
-        27 => Some(&columns::ABOUT_NULL),
+        8 => Some(&audit::ABOUT),
+        9 => Some(&normalize::ABOUT),
+        10 => Some(&key::ABOUT),
+        11 => Some(&resolve::ABOUT),
+        12 => Some(&relativize::ABOUT),
+        13 => Some(&edit::ABOUT),
+        14 => Some(&file::ABOUT),
+        15 => Some(&escape::ABOUT),
+        16 => Some(&encode::ABOUT),
+        17 => Some(&decode::ABOUT),
+        18 => Some(&help::ABOUT),
+        19 => Some(&json::ABOUT),
+        20 => Some(&quiet::ABOUT),
+        21 => Some(&explain::ABOUT),
+        22 => Some(&normalize::ABOUT_DROP_DEFAULT_PORT),
+        23 => Some(&escape::ABOUT_TRIM),
+        24 => Some(&lines::ABOUT),
+        25 => Some(&columns::ABOUT_ALIGN),
+        26 => Some(&columns::ABOUT_COLUMN),
+        27 => Some(&columns::ABOUT_APPEND),
+        28 => Some(&columns::ABOUT_NULL),
         _ => None,
     }
 }
@@ -206,6 +208,7 @@ fn run_plain<O: Write>(alloc: Global, name: &str, text: &str, out: &mut O) -> Re
         "tail" => tail(alloc, text, out),
         "normalize" => normalize(alloc, text.as_bytes(), out),
         "key" => key(alloc, text.as_bytes(), out),
+        "audit" => audit(text.as_bytes(), out),
         "decode" => decode(alloc, text.as_bytes(), out),
         "escape" => escape(alloc, text.as_bytes(), out),
         "pairs" => pairs(alloc, text.as_bytes(), out),
@@ -287,6 +290,8 @@ pub enum Task<'w> {
     NormalizePort,
     /// Print the reference's sort key.
     Key,
+    /// Print why readers may disagree on the reference.
+    Audit,
     /// Print whether the line's two references are equal.
     Equal,
     /// Check that the line's two references are equal.
@@ -374,6 +379,7 @@ impl<'w> Task<'w> {
             (Mode::Plain, "parse") => Ok(Task::Parse),
             (Mode::Plain, "normalize") => Ok(Task::Normalize),
             (Mode::Plain, "key") => Ok(Task::Key),
+            (Mode::Plain, "audit") => Ok(Task::Audit),
             (Mode::Plain, "equal") => Ok(Task::Equal),
             (Mode::Plain, "escape") => Ok(Task::Escape),
             (Mode::Json, "parse") => Ok(Task::Parse),
@@ -414,7 +420,7 @@ impl<'w> Task<'w> {
     }
 
     /// Does the task for a line. Normal forms, keys and targets are put together in the buffer.
-    #[tactic(auto, using(crate::proofs::OutputLemmas::run_parse, crate::proofs::OutputLemmas::run_check, crate::proofs::OutputLemmas::run_get, crate::proofs::OutputLemmas::run_normalize, crate::proofs::OutputLemmas::run_normalize_port, crate::proofs::OutputLemmas::run_key, crate::proofs::OutputLemmas::run_equal, crate::proofs::OutputLemmas::run_check_equal, crate::proofs::OutputLemmas::run_resolve, crate::proofs::OutputLemmas::run_relativize, crate::proofs::OutputLemmas::run_edit, crate::proofs::OutputLemmas::run_get_parts, crate::proofs::OutputLemmas::run_pair, crate::proofs::OutputLemmas::run_within, crate::proofs::OutputLemmas::run_host_within, crate::proofs::OutputLemmas::run_escape, crate::proofs::OutputLemmas::run_escape_link))]
+    #[tactic(auto, using(crate::proofs::OutputLemmas::run_parse, crate::proofs::OutputLemmas::run_check, crate::proofs::OutputLemmas::run_get, crate::proofs::OutputLemmas::run_normalize, crate::proofs::OutputLemmas::run_normalize_port, crate::proofs::OutputLemmas::run_key, crate::proofs::OutputLemmas::run_audit, crate::proofs::OutputLemmas::run_equal, crate::proofs::OutputLemmas::run_check_equal, crate::proofs::OutputLemmas::run_resolve, crate::proofs::OutputLemmas::run_relativize, crate::proofs::OutputLemmas::run_edit, crate::proofs::OutputLemmas::run_get_parts, crate::proofs::OutputLemmas::run_pair, crate::proofs::OutputLemmas::run_within, crate::proofs::OutputLemmas::run_host_within, crate::proofs::OutputLemmas::run_escape, crate::proofs::OutputLemmas::run_escape_link))]
     pub fn run<O: Write>(
         &self,
         alloc: Global,
@@ -432,6 +438,7 @@ impl<'w> Task<'w> {
             Task::Normalize => normalize_with(buffer, line, out),
             Task::NormalizePort => normalize_port(alloc, line, out),
             Task::Key => key_with(buffer, line, out),
+            Task::Audit => audit(line, out),
             Task::Equal => equal_pair(line, out),
             Task::CheckEqual => check_pair(line),
             Task::Resolve(base) => resolve_with(buffer, base, line, out),

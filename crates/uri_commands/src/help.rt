@@ -48,11 +48,11 @@ Usage: uri [OPTION..] COMMAND TEXT..     More, with an example: uri help COMMAND
 Read      parse TEXT              the reference, then each of its components
           tail TEXT               the same of a path, query and fragment alone
           get PART,.. TEXT        components, the origin, or the path of a file
-          pairs TEXT              the pairs of the query, a line each
-          pair NAME TEXT          the decoded value of a query parameter
+          pairs, pair NAME TEXT   the query's pairs; the decoded value of one
 Compare   equal A B               equal or different
           within BASE URI         status 0 if URI is below BASE, 3 if not
           host-within DOMAIN REF  status 0 if the host is in DOMAIN, 3 if not
+          audit TEXT              agree, or why other readers may disagree
 Make      normalize TEXT          the normal form
           key TEXT                bytes that sort, and are equal, as references
           resolve BASE REF        the target of the reference

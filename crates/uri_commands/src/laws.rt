@@ -73,6 +73,9 @@ pub fn examples_of_outputs()
     ensures normalize { spec.Normalizes (codes "HTTP://%61:80/b/../%7Ec") (spec.Printed (spec.line (codes "http://a:80/~c"))) }
     ensures drop_default_port { spec.NormalizesPort (codes "HTTP://a:80/%7E") (spec.Printed (spec.line (codes "http://a/~"))) }
     ensures key { spec.Keys (codes "a?b") (spec.Printed (spec.line (codes "1" ++ (1 ∷ 1 ∷ []) ++ codes "a" ++ (1 ∷ 2 ∷ []) ++ codes "b" ++ (1 ∷ 1 ∷ [])))) }
+    ensures agree { spec.Audits (codes "http://h/a") (spec.Printed (spec.line (codes "agree"))) }
+    ensures audit { spec.Audits (codes "http://127.1/") (spec.Printed (spec.line (codes "numeric-name"))) }
+    ensures audit_relative { spec.Audits (codes "//h/a") (spec.Printed (spec.line (codes "scheme"))) }
     ensures equal { spec.Compares (codes "http://h/%7ea") (codes "HTTP://H/~a") (spec.Printed (spec.line (codes "equal"))) }
     ensures different { spec.ChecksEqual (codes "http://h/a") (codes "http://h/b") spec.Negative }
     ensures resolve { spec.Resolves (codes "http://a/b/c/d;p?q") (codes "../g#s") (spec.Printed (spec.line (codes "http://a/b/g#s"))) }

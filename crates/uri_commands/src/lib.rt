@@ -8,6 +8,7 @@ ghost use Rattle.std.specs.Prelude.{◌≡◌, ◌≤◌, ◌∷◌, [], IfOk, M
 ghost use Rattle.uri_commands.specs.Output as spec;
 ghost use Rattle.uri_commands.specs.Tasks.{CommandEnds, ProgramEnds};
 
+mod audit;
 mod columns;
 mod commands;
 mod decode;

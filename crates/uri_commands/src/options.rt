@@ -212,6 +212,7 @@ fn is_command(name: &str) -> bool
             | "equal"
             | "within"
             | "host-within"
+            | "audit"
             | "normalize"
             | "key"
             | "resolve"

@@ -18,6 +18,11 @@ pub mod ResolveLemmas
 pub mod FileLemmas
 pub mod OriginLemmas
 pub mod SortLemmas
+pub mod LabelLemmas
+pub mod WebCutLemmas
+pub mod WebHostLemmas
+pub mod DisagreementLemmas
+pub mod DisagreementLawLemmas
 pub mod SortKeyLemmas
 pub mod KeyFormLemmas
 pub use Rattle.uriparse_reference.proofs.lemmas.reading.CharacterLemmas

@@ -44,6 +44,11 @@ ghost use Rattle.uriparse_path.specs.Relative.{is_last};
 ghost use Rattle.uriparse_path.specs.Within.{between_slashes, has_ambiguous, removes_unclear};
 ghost use Rattle.uriparse_reference.specs.Target.{is_empty, is_merged, target};
 
+mod readers;
+
+pub use readers::{
+    examples_of_disagreements, examples_of_leading, examples_of_web_readings, readers_agree,
+};
 pub use uriparse_authority::laws::within_domains;
 pub use uriparse_path::laws::{fewest_double_dots, one_check_of_segments};
 pub use uriparse_reference::laws::{

@@ -33,7 +33,7 @@ pub use relative_reference::{
 };
 pub use sort_key::{KeyForm, sort_key_into, sort_key_to_string};
 pub use text_of::TextOf;
-pub use uri::{Origin, URI, URIBuilder, URIError, URIText, URIView};
+pub use uri::{Disagreement, Origin, URI, URIBuilder, URIError, URIText, URIView};
 pub use uriparse_authority::authority;
 pub use uriparse_authority::authority::{
     Authority, AuthorityError, Host, HostError, IPvFuture, IpAddr, Ipv4Addr, Ipv6Addr, Password,

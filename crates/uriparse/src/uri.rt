@@ -16,6 +16,7 @@ use uriparse_scheme::scheme::Scheme;
 use uriparse_text::fragment::Fragment;
 use uriparse_text::query::Query;
 
+mod disagreement;
 mod error;
 mod origin;
 mod relate;
@@ -24,6 +25,7 @@ mod text;
 mod view;
 mod within;
 
+pub use disagreement::Disagreement;
 pub use error::URIError;
 pub use origin::Origin;
 pub use text::URIText;

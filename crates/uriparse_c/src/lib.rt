@@ -51,6 +51,7 @@ ghost use Rattle.uriparse_ffi.specs.Hash.{hash_of};
 ghost use Rattle.uriparse_ffi.specs.Pairs.{IsFirstNamedAt, IsNextNamedAt, IsPairAt, left_from, value_given};
 ghost use Rattle.uriparse_ffi.specs.Places.{ArePlacesOf};
 ghost use Rattle.uriparse_ffi.specs.Put.{IsPut, IsRefused, IsRelativePut};
+ghost use Rattle.uriparse_ffi.specs.Readers.{disagreement_flags};
 
 use uriparse_ffi::addresses::write_address;
 use uriparse_ffi::changes::{UriChanges, write_changed};
@@ -66,6 +67,7 @@ use uriparse_ffi::origins::{write_origin, write_same_origin};
 use uriparse_ffi::pair_edits::{write_appended, write_with_pair, write_without};
 use uriparse_ffi::pairs::{UriPair, named_pair, next_named_pair, pair_at};
 use uriparse_ffi::places::{UriParts, places};
+use uriparse_ffi::readers::reasons as reasons_of_text;
 use uriparse_ffi::texts::{equal_texts, hashed, write_normal, write_relative, write_target};
 use uriparse_reference::internal::find_pieces;
 use uriparse_reference::uri_reference::URIReference;
@@ -216,6 +218,24 @@ pub extern "C" fn uriparse_host_flags(text: &[u8], host: &mut u32) -> u32
     match flags(text) {
         Ok(sum) => {
             *host = sum;
+            ACCEPTED
+        }
+        Err(code) => code,
+    }
+}
+
+/// Writes why readers may disagree on a reference. Does not allocate.
+#[unsafe(no_mangle)]
+pub extern "C" fn uriparse_disagreement(text: &[u8], reasons: &mut u32) -> u32
+    // The sum of the flags of the reasons is written.
+    ensures checked { (p : Parts) → Spells text.now p → (result ≡ spec.accepted) × (reasons.new ≡ disagreement_flags p) }
+
+    // A faulty text is rejected, and nothing is written.
+    ensures refused { (e : URIReferenceError) → fault text.now ≡ Some e → (result ≡ spec.code_of e) × (reasons.new ≡ reasons.old) }
+{
+    match reasons_of_text(text) {
+        Ok(sum) => {
+            *reasons = sum;
             ACCEPTED
         }
         Err(code) => code,

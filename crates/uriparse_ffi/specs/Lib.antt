@@ -8,4 +8,5 @@ pub mod Put
 pub mod Changes
 pub mod Checks
 pub mod Places
+pub mod Readers
 pub mod Spans

@@ -17,5 +17,6 @@ pub mod pair_edits;
 pub mod pairs;
 pub mod places;
 pub mod put;
+pub mod readers;
 pub mod span;
 pub mod texts;

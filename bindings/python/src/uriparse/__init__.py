@@ -34,15 +34,15 @@ from ._uriparse import (compare, decode, default_port, equal, form_decode, hash_
 # methods.tsv: end
 
 __all__ = [
-    "COMPONENTS", "ENCODED", "IN_BASE", "NO_ROOM", "URI", "Buffer", "Code", "Component", "Components", "Encodable",
-    "HostFlag", "HostKind", "Parts", "Span", "Text", "URIError", "encode", "error_text", "get_many",
+    "COMPONENTS", "ENCODED", "IN_BASE", "NO_ROOM", "URI", "Buffer", "Code", "Component", "Components", "Disagreement",
+    "Encodable", "HostFlag", "HostKind", "Parts", "Span", "Text", "URIError", "encode", "error_text", "get_many",
     "host_is_within_many", "is_within_many", "key_many", "normalize_many", "parse_many", "relativize_many", "replace",
     "resolve_many", "without_pair", "without_pairs"]
 # methods.tsv: names
-__all__ += ["compare", "decode", "default_port", "equal", "escape", "first_fault", "form_decode", "hash_of",
-            "host_address", "host_flags", "host_is_within", "is_ambiguous", "is_normalized", "is_public", "is_uri",
-            "is_within", "key", "normal_key", "normalize", "origin", "page_key", "pair", "pair_values", "pairs",
-            "parse", "port_or_default", "relativize", "resolve", "same_origin", "spans", "trim_link",
+__all__ += ["compare", "decode", "default_port", "disagreement", "equal", "escape", "first_fault", "form_decode",
+            "hash_of", "host_address", "host_flags", "host_is_within", "is_ambiguous", "is_normalized", "is_public",
+            "is_uri", "is_within", "key", "normal_key", "normalize", "origin", "page_key", "pair", "pair_values",
+            "pairs", "parse", "port_or_default", "relativize", "resolve", "same_origin", "spans", "trim_link",
             "with_appended_pair", "with_pair"]
 # methods.tsv: end
 __version__ = "0.4.0"
@@ -61,6 +61,19 @@ class HostFlag(enum.IntFlag):
     HIDES_ADDRESS = 1
     MAY_BE_NUMERIC = 2
     HAS_ESCAPES = 4
+
+
+class Disagreement(enum.IntFlag):
+    """Why another reader, such as a browser or a library by the URL Standard, may read another URI in the same string."""
+
+    OTHER_SCHEME = 1
+    WITHOUT_HOST = 2
+    LATER_ADDRESS = 4
+    ESCAPED_NAME = 8
+    NUMERIC_NAME = 16
+    ENCODED_NAME = 32
+    ESCAPED_DOTS = 64
+    USER_INFORMATION = 128
 
 
 class Span(NamedTuple):
@@ -155,6 +168,12 @@ def first_fault(text: Union[Text, URI]) -> Optional[Tuple[Code, int]]:
 def host_flags(text: Union[Text, URI]) -> HostFlag:
     """What the name of a reference's host may be taken for. An address has no flag, and neither has a reference without a host."""
     return HostFlag(_uriparse.host_flags(text))
+
+
+def disagreement(text: Union[Text, URI]) -> Disagreement:
+    """Why another reader may read another URI in the same string, or no flag if readers by the URL Standard have the same scheme, host,
+    port, path, query and fragment and there is no user information. A relative reference has `OTHER_SCHEME`."""
+    return Disagreement(_uriparse.disagreement(text))
 
 
 def host_address(text: Union[Text, URI]) -> Union[ipaddress.IPv4Address, ipaddress.IPv6Address, None]:
@@ -356,6 +375,10 @@ class URI(_uriparse.Compared):
     def host_flags(self) -> HostFlag:
         """What the host may be taken for."""
         return host_flags(self)
+
+    def disagreement(self) -> Disagreement:
+        """Why another reader may read another URI in the same string."""
+        return disagreement(self)
 
     def host_address(self) -> Union[ipaddress.IPv4Address, ipaddress.IPv6Address, None]:
         """The address that is the host, or None."""

@@ -1,6 +1,8 @@
 -- The origin of a reference, and its text: with a slash after it, it is printed of a reference.
 use Rattle.std.proofs.Common.{◌≡◌, ◌≤◌, ◌++◌, ◌∷◌, [], List, ℕ, true, Option, Some, None, IsAscii, IsUtf8, length, refl, sym, ap, subst, ◌∙◌, arith, append_assoc}
 use Rattle.std.specs.Prelude.{IfSome}
+use Rattle.std.specs.Str.{str_to_ascii_lowercase}
+use Rattle.uriparse_text.specs.Canonical.{canonical_lowered}
 use Rattle.std.specs.Option.{option_and_then, option_map}
 use Rattle.std.proofs.Math.Seq.{take-append_seam}
 use Rattle.std.proofs.lemmas.Bool.{and_from}
@@ -14,10 +16,16 @@ use Rattle.uriparse_authority.specs.Host as host
 use Rattle.uriparse_authority.specs.Normal.{canonical_authority, canonical_host}
 use Rattle.uriparse_authority.specs.Port as port
 use Rattle.uriparse_authority.proofs.lemmas.authorities.NormalLemmas.{host_text-canonical, valid_canonical}
+use Rattle.uriparse_scheme.specs.DefaultPort.{default_port}
+use Rattle.uriparse_scheme.specs.Registered.{name_of, registered_named}
 use Rattle.uriparse_scheme.specs.declared.scheme.Scheme.{Scheme}
+use Rattle.uriparse_scheme.specs.declared.scheme.Scheme.TheVariants.{Registered, Unregistered}
+use Rattle.uriparse_scheme.specs.declared.scheme.registered.RegisteredScheme.{RegisteredScheme}
 use Rattle.uriparse_scheme.specs.Scheme as scheme
 use Rattle.uriparse_scheme.specs.Normal.{canonical_scheme}
+use Rattle.uriparse_scheme.proofs.lemmas.schemes.GrammarLemmas.{canonical_low_of_scheme}
 use Rattle.uriparse_scheme.proofs.lemmas.schemes.NormalLemmas.{text-canonical}
+use Rattle.uriparse_scheme.proofs.lemmas.table.TableLemmas.{canonical_name, named_itself, same_name}
 use Rattle.uriparse_scheme.proofs.lemmas.schemes.NormalLemmas as schemes
 use Rattle.uriparse_reference.specs.Reference.{Parts, Valid, print}
 use Rattle.uriparse_reference.proofs.lemmas.reading.AsciiLemmas.{IsAscii-print}
@@ -75,3 +83,19 @@ IsUtf8-text o s h n =
     let t = text o in
     let whole : IsAscii (t ++ slash ∷ []) = subst IsAscii (printed_of o) (IsAscii-print (of_origin o) (valid_of o s h n)) in
     IsUtf8-from_ascii t (subst IsAscii (take-append_seam t (slash ∷ [])) (IsAscii-take (t ++ slash ∷ []) (length t) whole))
+
+-- ---- default ports
+
+-- no scheme that isn't registered has the name of one that is
+never_named : (a : RegisteredScheme) (t : List ℕ) → scheme.IsUnregistered t → canonical_lowered t ≡ name_of a → ⊥
+never_named a t is e =
+    let low : str_to_ascii_lowercase t ≡ name_of a = sym (canonical_low_of_scheme t is.scheme) ∙ e in
+    let both : Some a ≡ None = sym (named_itself a) ∙ sym (ap registered_named low) ∙ is.nameless in
+    cc
+
+-- schemes of one canonical text have one default port
+pub same_default : (r s : Scheme) → scheme.Valid r → scheme.Valid s → scheme.canonical_text r ≡ scheme.canonical_text s → default_port r ≡ default_port s
+same_default (Registered a) (Registered b) v w e = ap (λ r. default_port (Registered r)) (same_name a b (sym (canonical_name a) ∙ e ∙ canonical_name b))
+same_default (Registered a) (Unregistered t) v w e = absurd (never_named a t w (sym e ∙ canonical_name a))
+same_default (Unregistered t) (Registered b) v w e = absurd (never_named b t v (e ∙ canonical_name b))
+same_default (Unregistered t) (Unregistered u) v w e = refl

@@ -5,4 +5,4 @@ use Rattle.uri_commands.proofs.commands.topic.Goals as goal
 
 pub returns-in_default-clause-topic : goal.returns-in_default-clause-topic
 unfolding topics
-returns-in_default-clause-topic c = let past : 28 ≤ c.args.place = search rules in sym (slice_get_past topics c.args.place past)
+returns-in_default-clause-topic c = let past : 29 ≤ c.args.place = search rules in sym (slice_get_past topics c.args.place past)

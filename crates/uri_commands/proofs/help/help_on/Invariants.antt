@@ -10,4 +10,4 @@ invariant-topics g l = record {
 }
 
 abbrev pub decreases-topics : goal.decreases-topics
-decreases-topics g l = 28 - l.place
+decreases-topics g l = 29 - l.place

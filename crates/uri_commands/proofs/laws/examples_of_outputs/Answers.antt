@@ -23,6 +23,7 @@ use Rattle.uriparse.specs.TextFaults as text
 use Rattle.uriparse.specs.Tokens.{tokens}
 use Rattle.uriparse.specs.File.{path_of_uri}
 use Rattle.uriparse.specs.Key.{key}
+use Rattle.uriparse.specs.Disagreement.{disagreement}
 use Rattle.uriparse.specs.Normal.{normal}
 use Rattle.uriparse.specs.PairEdits.{pair_in}
 use Rattle.uriparse.specs.Ports.{without_default_port}
@@ -30,7 +31,7 @@ use Rattle.uriparse.specs.Reference.{Parts, print}
 use Rattle.uriparse.specs.SortKey.{sort_key}
 use Rattle.uriparse.specs.Target.{target}
 use Rattle.uri_commands.specs.Columns.{tab}
-use Rattle.uri_commands.specs.Output.{Answer, Printed, Prints, PrintsIfPresent, PrintsPairs, Rejected, equal_or_different, nothing_if, part_text, reference_lines}
+use Rattle.uri_commands.specs.Output.{Answer, Printed, Prints, PrintsIfPresent, PrintsPairs, Rejected, equal_or_different, nothing_if, part_text, reason_word, reference_lines}
 use Rattle.uri_commands.specs.declared.get.Part.TheVariants as part
 use Rattle.uri_commands.proofs.ReadingLemmas.{Reads, of_base, of_reference, of_two, of_uri}
 use Rattle.uri_commands.proofs.laws.examples_of_outputs.Goals as goal
@@ -49,6 +50,9 @@ returns c =
       normalize = of_reference reads (codes "HTTP://%61:80/b/../%7Ec") (λ p. Prints (print (normal p))) _ refl;
       drop_default_port = of_reference reads (codes "HTTP://a:80/%7E") (λ p. Prints (print (without_default_port (normal p)))) _ refl;
       key = of_reference reads (codes "a?b") (λ p. Prints (sort_key p)) _ refl;
+      agree = of_reference reads (codes "http://h/a") (λ p. Prints (reason_word (disagreement p))) _ refl;
+      audit = of_reference reads (codes "http://127.1/") (λ p. Prints (reason_word (disagreement p))) _ refl;
+      audit_relative = of_reference reads (codes "//h/a") (λ p. Prints (reason_word (disagreement p))) _ refl;
       equal =
           of_two reads (codes "http://h/%7ea") (codes "HTTP://H/~a") (λ p q. Prints (equal_or_different (bytes_eq (key p) (key q)))) _ refl;
       different = of_two reads (codes "http://h/a") (codes "http://h/b") (λ p q a. a ≡ nothing_if (bytes_eq (key p) (key q))) _ refl;

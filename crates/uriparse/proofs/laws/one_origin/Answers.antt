@@ -33,7 +33,7 @@ use Rattle.uriparse_reference.proofs.lemmas.reading.PrintedLemmas.{printed_apart
 use Rattle.uriparse_reference.specs.Ports.{port_or_default, without_default_port}
 use Rattle.uriparse_reference.proofs.lemmas.edits.PortLemmas.{scheme_without, host_without, port_without}
 use Rattle.uriparse.specs.declared.uri.origin.Origin.{Origin}
-use Rattle.uriparse.proofs.lemmas.OriginLemmas.{made, of_origin, printed_of, valid_of}
+use Rattle.uriparse.proofs.lemmas.OriginLemmas.{made, of_origin, printed_of, same_default, valid_of}
 use Rattle.uriparse.proofs.laws.one_origin.Goals as goal
 
 eq_from : (m n : ℕ) → m ≡ n → (m == n) ≡ true
@@ -86,20 +86,6 @@ returns-clause-port c = λ p.
     ∙ ap (λ h. made p.scheme (option_and_then if_named h) (port_or_default q)) (host_without p) ∙ ap (made p.scheme (named_host p)) (port_without p)
 
 -- ---- one text
-
--- no scheme that isn't registered has the name of one that is
-never_named : (a : RegisteredScheme) (t : List ℕ) → scheme.IsUnregistered t → canonical_lowered t ≡ name_of a → ⊥
-never_named a t is e =
-    let low : str_to_ascii_lowercase t ≡ name_of a = sym (canonical_low_of_scheme t is.scheme) ∙ e in
-    let both : Some a ≡ None = sym (named_itself a) ∙ sym (ap registered_named low) ∙ is.nameless in
-    cc
-
--- schemes of one canonical text have one default port
-same_default : (r s : Scheme) → scheme.Valid r → scheme.Valid s → scheme.canonical_text r ≡ scheme.canonical_text s → default_port r ≡ default_port s
-same_default (Registered a) (Registered b) v w e = ap (λ r. default_port (Registered r)) (same_name a b (sym (canonical_name a) ∙ e ∙ canonical_name b))
-same_default (Registered a) (Unregistered t) v w e = absurd (never_named a t w (sym e ∙ canonical_name a))
-same_default (Unregistered t) (Registered b) v w e = absurd (never_named b t v (e ∙ canonical_name b))
-same_default (Unregistered t) (Unregistered u) v w e = refl
 
 made_scheme : (s : Option Scheme) (h : Option Host) (n : Option ℕ) (a : Origin) → made s h n ≡ Some a → s ≡ Some a.scheme
 made_scheme None h n a e = absurd (cc)
