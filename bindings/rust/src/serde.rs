@@ -1,10 +1,7 @@
 //! `Serialize` and `Deserialize` of serde for the references, with the feature `serde`. Each is a string. A string that isn't one is an
 //! error with the words of [`Error`](crate::Error), which show nothing of the string.
 
-use crate::reference::{Uri, UriRef};
-#[cfg(feature = "alloc")]
-use crate::{UriBuf, UriRefBuf};
-#[cfg(feature = "alloc")]
+use crate::{Uri, UriBuf, UriRef, UriRefBuf};
 use alloc::string::String;
 use core::convert::TryFrom;
 use core::fmt;
@@ -33,10 +30,8 @@ impl<'de, T: TryFrom<&'de str, Error = crate::Error>> Visitor<'de> for Borrowed<
 }
 
 /// Reads a `T` that owns its string.
-#[cfg(feature = "alloc")]
 struct Owned<T>(PhantomData<T>);
 
-#[cfg(feature = "alloc")]
 impl<T> Visitor<'_> for Owned<T>
 where
     T: TryFrom<String, Error = crate::Error> + for<'a> TryFrom<&'a str, Error = crate::Error>,
@@ -67,9 +62,7 @@ macro_rules! serialize {
     )*};
 }
 
-serialize!(UriRef<'_>, Uri<'_>);
-#[cfg(feature = "alloc")]
-serialize!(UriRefBuf, UriBuf);
+serialize!(UriRef<'_>, Uri<'_>, UriRefBuf, UriBuf);
 
 /// It borrows the input's string. A string that the input doesn't have as it is, such as one with escapes, is an error: read an owned
 /// type of it.
@@ -87,14 +80,12 @@ impl<'de: 'a, 'a> Deserialize<'de> for Uri<'a> {
     }
 }
 
-#[cfg(feature = "alloc")]
 impl<'de> Deserialize<'de> for UriRefBuf {
     fn deserialize<D: Deserializer<'de>>(deserializer: D) -> Result<Self, D::Error> {
         deserializer.deserialize_string(Owned(PhantomData))
     }
 }
 
-#[cfg(feature = "alloc")]
 impl<'de> Deserialize<'de> for UriBuf {
     fn deserialize<D: Deserializer<'de>>(deserializer: D) -> Result<Self, D::Error> {
         deserializer.deserialize_string(Owned(PhantomData))
