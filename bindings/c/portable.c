@@ -2,10 +2,9 @@
  * tools/dist/portable puts it after that C in one file. Each thread has a module of its own, whose memory is allocated at its first call and
  * grows with the texts, so a call may return URIPARSE_OUT_OF_MEMORY; one that returns no code then takes the text for invalid.
  *
- * The module's memory has the bytes of each text, and then a place for what the call writes. Its sizes have 64 bits. */
-#if defined(__BYTE_ORDER__) && __BYTE_ORDER__ != __ORDER_LITTLE_ENDIAN__
-#error "the module's memory is copied as it stands: the processor must have the lowest byte of a number first"
-#endif
+ * The module's memory has the bytes of each text, and then a place for what the call writes. Its sizes have 64 bits. If the processor has the
+ * highest byte of a number first, the memory stands the other way round, so that a number's bytes are in the processor's order
+ * (WABT_BIG_ENDIAN, which tools/dist/portable defines, as MEMORY_AT). */
 #define PAGE 65536u
 /* The places for what a call writes, and the space between those of texts. */
 #define SPARE 1024u
@@ -50,7 +49,12 @@ uint32_t wasm_rt_grow_memory(wasm_rt_memory_t *memory, uint32_t more) {
   uint32_t before = memory->pages;
   uint8_t *data = realloc(memory->data, (size_t)(before + more) * PAGE);
   if (!data) return UINT32_MAX;
+#if WABT_BIG_ENDIAN
+  memmove(data + (size_t)more * PAGE, data, memory->size);
+  memset(data, 0, (size_t)more * PAGE);
+#else
   memset(data + memory->size, 0, (size_t)more * PAGE);
+#endif
   memory->data = data;
   memory->pages = before + more;
   memory->size = memory->pages * PAGE;
@@ -89,18 +93,26 @@ static uint64_t place(size_t size) {
   return at;
 }
 
+/* Copies the bytes of a text into the memory, or out of it. */
+static void copy(uint8_t *to, const uint8_t *from, size_t size) {
+#if WABT_BIG_ENDIAN
+  for (size_t i = 0; i < size; i++) to[i] = from[size - 1 - i];
+#else
+  if (size) memcpy(to, from, size);
+#endif
+}
+
 /* A place that has these bytes. */
 static uint64_t put(const void *bytes, size_t size) {
   uint64_t at = place(size);
-  if (size) memcpy(module.w2c_memory.data + at, bytes, size);
+  copy(MEMORY_AT(&module.w2c_memory, at, size), bytes, size);
   return at;
 }
 
-static void put_number(uint64_t at, uint64_t number) { memcpy(module.w2c_memory.data + at, &number, 8); }
+static void put_number(uint64_t at, uint64_t number) { memcpy(MEMORY_AT(&module.w2c_memory, at, 8), &number, 8); }
 
-static void take(uint64_t at, void *to, size_t size) {
-  if (size) memcpy(to, module.w2c_memory.data + at, size);
-}
+/* Takes a number of this size. */
+static void take(uint64_t at, void *to, size_t size) { memcpy(to, MEMORY_AT(&module.w2c_memory, at, size), size); }
 
 static size_t take_size(uint64_t at) {
   uint64_t number;
@@ -109,14 +121,14 @@ static size_t take_size(uint64_t at) {
 }
 
 static struct uriparse_span take_span(uint64_t at) {
-  struct uriparse_span span = {take_size(at), take_size(at + 8), module.w2c_memory.data[at + 16] != 0};
+  struct uriparse_span span = {take_size(at), take_size(at + 8), *MEMORY_AT(&module.w2c_memory, at + 16, 1) != 0};
   return span;
 }
 
 /* The result of a call that writes to `out`. */
 static uint32_t written(uint32_t code, uint64_t at, uint64_t needed_at, uint8_t *out, size_t *needed) {
   *needed = take_size(needed_at);
-  if (code == URIPARSE_OK) take(at, out, *needed);
+  if (code == URIPARSE_OK) copy(out, MEMORY_AT(&module.w2c_memory, at, *needed), *needed);
   leave();
   return code;
 }

@@ -9,9 +9,12 @@ import tarfile
 import zipfile
 from pathlib import Path
 
+import coff
+
 TARGETS = ("x86_64-linux-gnu", "aarch64-linux-gnu")
 # Compiled from the module of LLVM.
 OTHERS = ("riscv64-linux-gnu", "x86_64-w64-mingw32", "arm64-apple-macos11", "x86_64-apple-macos11")
+WINDOWS = OTHERS[1]
 MACHINES = {62: "x86_64-linux-gnu", 183: "aarch64-linux-gnu"}
 # Relocations of x86-64 by which a linker may also change the instruction: it begins up to three bytes before.
 RELAXED = (9, 41, 42)
@@ -65,6 +68,8 @@ def sections(elf):
 
 def segments_of_code(elf):
     """The bytes of a linked file that a processor may execute."""
+    if elf.startswith(coff.LINKED):
+        return coff.segments_of_code(elf)
     start, = struct.unpack_from("<Q", elf, 32)
     size, count = struct.unpack_from("<HH", elf, 54)
     found = []
@@ -98,6 +103,10 @@ def fixed_runs(content, places):
 
 def pieces(elf):
     """The runs of fixed bytes of each section of code of an object."""
+    if elf.startswith(coff.OBJECT):
+        for content, places in coff.pieces(elf):
+            yield list(fixed_runs(content, places))
+        return
     found, relocations = {}, {}
     for number, (kind, flags, offset, length, about, entry) in enumerate(sections(elf)):
         if kind == 1 and flags & 4 and length:
@@ -128,6 +137,14 @@ def is_linked_with(elf, archive):
     return all(any(stands_in(runs, code) for code in codes) for _, made in ar_members(archive) for runs in pieces(made) if runs)
 
 
+def target_of(path, content):
+    """The target of the library that is linked into a file, or None if the file isn't linked with one."""
+    name = path.rsplit("/", 1)[-1]
+    if content.startswith(b"\x7fELF") and (name.endswith(".so") or ".so." in name):
+        return machine_of(content)
+    return WINDOWS if content.startswith(coff.LINKED) and name.endswith((".dll", ".pyd")) else None
+
+
 def held(path, content, known):
     """What a file of an artefact holds, or None if it is neither an archive, a linked file nor a module. It must be one of those known:
     the archive for each target, `uri` and `uriparse.wasm`."""
@@ -135,8 +152,8 @@ def held(path, content, known):
     if name == "liburiparse.a":
         target = next((target for target in TARGETS + OTHERS if content == known[target]), None)
         what, is_right = "liburiparse.a of %s" % target, target is not None
-    elif content.startswith(b"\x7fELF") and (name.endswith(".so") or ".so." in name):
-        target = machine_of(content)
+    elif target_of(path, content):
+        target = target_of(path, content)
         what, is_right = "the code of liburiparse.a of " + target, is_linked_with(content, known[target])
     elif content.startswith(b"\x7fELF") and name == "uri":
         what, is_right = "the code of uri", segments_of_code(content) == segments_of_code(known["uri"])

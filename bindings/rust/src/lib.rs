@@ -24,6 +24,8 @@ mod key;
 mod owned;
 mod pairs;
 mod reference;
+#[cfg(feature = "serde")]
+mod serde;
 mod sort_key;
 #[allow(unsafe_code)]
 mod sys;
