@@ -20,4 +20,12 @@ pub mod OriginLemmas
 pub mod SortLemmas
 pub mod SortKeyLemmas
 pub mod KeyFormLemmas
+pub mod PlaceListLemmas
+pub mod PlaceHostLemmas
+pub mod PlacePathLemmas
+pub mod PlaceKeyLemmas
+pub mod PlaceNameLemmas
+pub mod PlaceDirectoryLemmas
+pub mod PlaceByteLemmas
+pub mod PlacePutLemmas
 pub use Rattle.uriparse_reference.proofs.lemmas.reading.CharacterLemmas

@@ -8,6 +8,7 @@ pub mod File
 pub mod ChangeOf
 pub mod Apart
 pub mod SortKey
+pub mod PlaceKey
 -- texts: RFC 3986, section 2
 pub use Rattle.uriparse_text.specs.Bytes
 pub use Rattle.uriparse_text.specs.Classes
