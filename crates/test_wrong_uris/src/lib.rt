@@ -13,6 +13,7 @@ ghost use Rattle.uriparse_reference.specs.Target.{target};
 ghost use Rattle.uriparse.specs.File as files;
 ghost use Rattle.uriparse.specs.Kinds.{fault_of, of_kind};
 ghost use Rattle.uriparse.specs.Origin as origins;
+ghost use Rattle.uriparse.specs.PlaceKey as places;
 ghost use Rattle.uriparse.specs.SortKey as keys;
 ghost use Rattle.uriparse.specs.Uri.{base as without_fragment, map_error};
 ghost use Rattle.uriparse.specs.Within as within;
@@ -24,7 +25,8 @@ use std::alloc::{AllocError, Global};
 use uriparse::file::{FileError, from_path, to_path};
 use uriparse::{
     BufferError, Host, KeyForm, Origin, Query, ReferenceView, URI, URIBuilder, URIError,
-    URIReference, URIView, sort_key_into, sort_key_to_string,
+    URIReference, URIView, base_prefix_into, domain_prefix_into, place_key_into, sort_key_into,
+    sort_key_to_string,
 };
 
 /// Reads a URI. A fault, or that there is no scheme, is returned whatever memory there is, and a path
@@ -171,4 +173,25 @@ pub fn exact_key(alloc: Global, view: &ReferenceView<'_>) -> Result<String, Allo
     ensures { IfOk result (λ s. string_bytes s ≡ keys.sort_key view.now.parts) }
 {
     sort_key_to_string(alloc, view, KeyForm::EXACT)
+}
+
+/// Writes the place key of a URI.
+pub fn write_place_key(uri: &URIView<'_>, out: &mut [u8]) -> Result<usize, BufferError>
+    ensures { Writes (places.place_key uri.now.parts) result out.old out.new }
+{
+    place_key_into(uri, out)
+}
+
+/// Writes what the keys of all URIs within a domain begin with.
+pub fn write_domain_prefix(domain: &Host<'_>, out: &mut [u8]) -> Result<usize, BufferError>
+    ensures { Writes (places.domain_prefix domain.now) result out.old out.new }
+{
+    domain_prefix_into(domain, out)
+}
+
+/// Writes what the keys of all URIs below a base begin with.
+pub fn write_base_prefix(base: &URIView<'_>, out: &mut [u8]) -> Result<usize, BufferError>
+    ensures { Writes (places.base_prefix base.now.parts) result out.old out.new }
+{
+    base_prefix_into(base, out)
 }
