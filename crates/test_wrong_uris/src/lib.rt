@@ -14,6 +14,7 @@ ghost use Rattle.uriparse.specs.Disagreement as readers;
 ghost use Rattle.uriparse.specs.File as files;
 ghost use Rattle.uriparse.specs.Kinds.{fault_of, of_kind};
 ghost use Rattle.uriparse.specs.Origin as origins;
+ghost use Rattle.uriparse.specs.PlaceKey as places;
 ghost use Rattle.uriparse.specs.SortKey as keys;
 ghost use Rattle.uriparse.specs.Uri.{base as without_fragment, map_error};
 ghost use Rattle.uriparse.specs.Within as within;
@@ -25,7 +26,8 @@ use std::alloc::{AllocError, Global};
 use uriparse::file::{FileError, from_path, to_path};
 use uriparse::{
     BufferError, Disagreement, Host, KeyForm, Origin, Query, ReferenceView, URI, URIBuilder, URIError,
-    URIReference, URIView, sort_key_into, sort_key_to_string,
+    URIReference, URIView, base_prefix_into, domain_prefix_into, place_key_into, sort_key_into,
+    sort_key_to_string,
 };
 
 /// Reads a URI. A fault, or that there is no scheme, is returned whatever memory there is, and a path
@@ -200,4 +202,25 @@ pub fn leads_alike(base: &URIView<'_>, reference: &ReferenceView<'_>) -> bool
     ensures { result ≡ readers.leads_alike base.now.parts reference.now.parts }
 {
     base.leads_alike(reference)
+}
+
+/// Writes the place key of a URI.
+pub fn write_place_key(uri: &URIView<'_>, out: &mut [u8]) -> Result<usize, BufferError>
+    ensures { Writes (places.place_key uri.now.parts) result out.old out.new }
+{
+    place_key_into(uri, out)
+}
+
+/// Writes what the keys of all URIs within a domain begin with.
+pub fn write_domain_prefix(domain: &Host<'_>, out: &mut [u8]) -> Result<usize, BufferError>
+    ensures { Writes (places.domain_prefix domain.now) result out.old out.new }
+{
+    domain_prefix_into(domain, out)
+}
+
+/// Writes what the keys of all URIs below a base begin with.
+pub fn write_base_prefix(base: &URIView<'_>, out: &mut [u8]) -> Result<usize, BufferError>
+    ensures { Writes (places.base_prefix base.now.parts) result out.old out.new }
+{
+    base_prefix_into(base, out)
 }

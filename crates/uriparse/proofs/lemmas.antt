@@ -25,4 +25,12 @@ pub mod DisagreementLemmas
 pub mod DisagreementLawLemmas
 pub mod SortKeyLemmas
 pub mod KeyFormLemmas
+pub mod PlaceListLemmas
+pub mod PlaceHostLemmas
+pub mod PlacePathLemmas
+pub mod PlaceKeyLemmas
+pub mod PlaceNameLemmas
+pub mod PlaceDirectoryLemmas
+pub mod PlaceByteLemmas
+pub mod PlacePutLemmas
 pub use Rattle.uriparse_reference.proofs.lemmas.reading.CharacterLemmas

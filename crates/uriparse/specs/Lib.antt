@@ -8,6 +8,7 @@ pub mod File
 pub mod ChangeOf
 pub mod Apart
 pub mod SortKey
+pub mod PlaceKey
 pub mod Web
 pub mod Disagreement
 -- texts: RFC 3986, section 2

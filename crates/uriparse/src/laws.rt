@@ -34,6 +34,8 @@ ghost use Rattle.uriparse.specs.RelativeReference as relative;
 ghost use Rattle.std.specs.declared.cmp.Ordering.TheVariants.{Equal, Less};
 ghost use Rattle.uriparse.specs.SortKey.{AreKeyBytes, compared_keys, exact, key_order, in_form, page, shown_key, sort_key};
 ghost use Rattle.uriparse.specs.declared.sort_key.KeyForm.{KeyForm};
+ghost use Rattle.uriparse.specs.PlaceKey.{BeginsWith, IsBetween, IsClearBelow, IsSamePage, base_prefix, domain_prefix, place_key, shown_base, shown_begins, shown_domain, shown_place, successor};
+ghost use Rattle.uriparse_authority.specs.Within as domains;
 ghost use Rattle.uriparse_reference.specs.Order.{reference_cmp};
 ghost use Rattle.uriparse.specs.Uri as uri;
 ghost use Rattle.uriparse.specs.Within.{IsWithin, is_within, shown_within, target_within};
@@ -85,6 +87,23 @@ pub fn one_sort_key()
     ensures bytes { (p : Parts) → Valid p → AreKeyBytes (sort_key p) }
     ensures apart { (p q : Parts) → Spells (sort_key p) q → ⊥ }
     ensures valid { (f : KeyForm) (p : Parts) → Valid p → Valid (in_form f p) }
+{}
+
+/// The place key of a URI begins with the prefix of a domain exactly if its host is within the domain. A
+/// URI is below a base exactly if its place key begins with the prefix of the base, no segment after the
+/// base's directory is ambiguous, and no `..` in its path removes a segment on which readers disagree.
+/// What begins with a prefix is what isn't less than it, and less than its successor; of keys, also less
+/// than the prefix with the byte 0x7F after it. Place keys are equal exactly if the URIs have the same
+/// normal form, with the ports that they use. Keys and prefixes have bytes from 0x01 to 0x7E alone.
+pub fn one_place_key()
+    ensures domain { (p : Parts) (d : Host) → Valid p → host.Valid d → BeginsWith (place_key p) (domain_prefix d) ↔ ((h : Host) × (host_of p ≡ Some h) × domains.IsWithin h d) }
+    ensures base { (p b : Parts) → Valid p → Valid b → IsWithin p b ↔ (BeginsWith (place_key p) (base_prefix b) × IsClearBelow p b) }
+    ensures between { (t u : List ℕ) → 0 < length u → BeginsWith t u ↔ IsBetween t u (successor u) }
+    ensures between_keys { (t u : List ℕ) → AreKeyBytes t → BeginsWith t u ↔ IsBetween t u (u ++ 127 ∷ []) }
+    ensures same { (p q : Parts) → Valid p → Valid q → (place_key p ≡ place_key q) ↔ IsSamePage p q }
+    ensures bytes { (p : Parts) → Valid p → AreKeyBytes (place_key p) }
+    ensures domain_bytes { (d : Host) → host.Valid d → AreKeyBytes (domain_prefix d) }
+    ensures base_bytes { (b : Parts) → Valid b → AreKeyBytes (base_prefix b) }
 {}
 
 /// A URI has the origin that it has without its scheme's default port. Two URIs have the same origin
@@ -316,4 +335,52 @@ pub fn examples_of_sort_keys()
     ensures prefix { compared_keys exact (codes "//a/z") (codes "//a.b/c") ≡ Some Less }
     ensures queries { compared_keys exact (codes "a#z") (codes "a?") ≡ Some Less }
     ensures fragments { compared_keys page (codes "a#z") (codes "a") ≡ Some Equal }
+{}
+
+/// Place keys and prefixes, with `|` for the byte that ends a part or stands for an absent component, `^`
+/// for the one that precedes a present component or ends a host, and `{` for the one that ends a name with
+/// a dot at its end.
+pub fn examples_of_place_keys()
+    ensures nothing { shown_place (codes "http:") ≡ Some (codes "p|^http||||") }
+    ensures plain { shown_place (codes "http://www.example.com/a?q") ≡ Some (codes "p^1com|example|www|^^00080||^http|/a|^q||") }
+    ensures spelled { shown_place (codes "HTTP://%57WW.Example.COM:80/b/../%61?%71") ≡ Some (codes "p^1com|example|www|^^00080||^http|/a|^q||") }
+    ensures escaped_dot { shown_place (codes "http://www%2Eexample.com/a?q") ≡ Some (codes "p^1com|example|www|^^00080||^http|/a|^q||") }
+    ensures end_dot { shown_place (codes "http://example.com./") ≡ Some (codes "p^1com|example|{^00080||^http|/|||") }
+    ensures whole { shown_place (codes "ftp://u:p@example.com:2121/a/b#f") ≡ Some (codes "p^1com|example|^^02121^u|^p|^ftp|/a/b||^f|") }
+    ensures ipv4 { shown_place (codes "http://192.0.2.1/") ≡ Some (codes "p^4c0000201|^^00080||^http|/|||") }
+    ensures ipv6 { shown_place (codes "http://[2001:DB8::1]/") ≡ Some (codes "p^620010db8000000000000000000000001|^^00080||^http|/|||") }
+    ensures future { shown_place (codes "http://[vF.A:b]/") ≡ Some (codes "p^7vf.a:b|^^00080||^http|/|||") }
+    ensures hidden { shown_place (codes "http://%31.2.3.4/") ≡ Some (codes "p^21.2.3.4|^^00080||^http|/|||") }
+    ensures hidden_dot { shown_place (codes "http://1.2.3.4./") ≡ Some (codes "p^21.2.3.4.|{^00080||^http|/|||") }
+    ensures empty_label { shown_place (codes "http://a..b/") ≡ Some (codes "p^2a..b|^^00080||^http|/|||") }
+    ensures escape { shown_place (codes "http://a%2fb/") ≡ Some (codes "p^2a%2Fb|^^00080||^http|/|||") }
+    ensures no_port { shown_place (codes "foo://h/") ≡ Some (codes "p^1h|^|||^foo|/|||") }
+    ensures no_host { shown_place (codes "file:///a") ≡ Some (codes "p^2|^|||^file|/a|||") }
+    ensures no_authority { shown_place (codes "mailto:a@b") ≡ Some (codes "p|^mailto|a@b|||") }
+    ensures two_slashes { shown_place (codes "urn:/.//a") ≡ Some (codes "p|^urn|//a|||") }
+    ensures domain { shown_domain (codes "//Example.com") ≡ Some (codes "p^1com|example|") }
+    ensures domain_dot { shown_domain (codes "//example.com.") ≡ Some (codes "p^1com|example|") }
+    ensures domain_address { shown_domain (codes "//192.0.2.1") ≡ Some (codes "p^4c0000201|") }
+    ensures domain_hidden { shown_domain (codes "//%31.2.3.4") ≡ Some (codes "p^21.2.3.4|") }
+    ensures base { shown_base (codes "https://Example.com:443/app/index?q#f") ≡ Some (codes "p^1com|example|^^00443||^https|/app/") }
+    ensures base_slash { shown_base (codes "https://example.com/app/") ≡ Some (codes "p^1com|example|^^00443||^https|/app/") }
+    ensures base_dot { shown_base (codes "https://example.com/app/x/%2e%2e") ≡ Some (codes "p^1com|example|^^00443||^https|/app/") }
+    ensures base_alone { shown_base (codes "mailto:a@b") ≡ Some (codes "p|^mailto|a@b|") }
+    ensures base_rooted { shown_base (codes "urn:a/../b") ≡ Some (codes "p|^urn|/") }
+    ensures begins_below { shown_begins (codes "HTTPS://EXAMPLE.com:443/x/../app/a?b#c") (codes "https://example.com/app/") ≡ Some true }
+    ensures begins_directory { shown_begins (codes "https://example.com/app/") (codes "https://example.com/app/") ≡ Some true }
+    ensures begins_longer_name { shown_begins (codes "https://example.com/appX") (codes "https://example.com/app/") ≡ Some false }
+    ensures begins_no_slash { shown_begins (codes "https://example.com/app") (codes "https://example.com/app/") ≡ Some false }
+    ensures begins_user { shown_begins (codes "https://u@example.com/app/a") (codes "https://example.com/app/") ≡ Some false }
+    ensures begins_end_dot_host { shown_begins (codes "https://example.com./app/a") (codes "https://example.com/app/") ≡ Some false }
+{}
+
+/// What the laws of place keys need: a key can begin with the prefix of a base that the URI isn't below, if a
+/// segment is ambiguous or a `..` removes an empty one; an empty prefix has no successor; and a byte string
+/// that is no key can begin with a prefix and 0x7F.
+pub fn limits_of_place_keys()
+    ensures ambiguous { (shown_begins (codes "https://example.com/app/..;/admin") (codes "https://example.com/app/") ≡ Some true) × (shown_within (codes "https://example.com/app/..;/admin") (codes "https://example.com/app/") ≡ Some false) }
+    ensures removed { (shown_begins (codes "https://example.com/app//../a") (codes "https://example.com/app/") ≡ Some true) × (shown_within (codes "https://example.com/app//../a") (codes "https://example.com/app/") ≡ Some false) }
+    ensures empty { IsBetween [] [] (successor []) → ⊥ }
+    ensures other_byte { IsBetween (127 ∷ []) [] ([] ++ 127 ∷ []) → ⊥ }
 {}

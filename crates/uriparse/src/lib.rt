@@ -17,6 +17,7 @@ pub mod file;
 mod kind;
 pub mod laws;
 mod order;
+pub mod place_key;
 mod reference_of;
 pub mod relative_reference;
 pub mod sort_key;
@@ -26,6 +27,10 @@ mod view_of;
 
 pub use builder_of::BuilderOf;
 pub use change_of::KindChangeError;
+pub use place_key::{
+    base_prefix_into, base_prefix_to_string, domain_prefix_into, domain_prefix_to_string,
+    place_key_into, place_key_to_string,
+};
 pub use reference_of::ReferenceOf;
 pub use relative_reference::{
     RelativeReference, RelativeReferenceBuilder, RelativeReferenceError, RelativeReferenceText,

@@ -65,10 +65,10 @@ impl KeyForm {
 }
 
 /// Ends a text, and stands for an absent component.
-const END: &[u8] = b"\x01";
+pub(crate) const END: &[u8] = b"\x01";
 
 /// Precedes a present component.
-const PRESENT: &[u8] = b"\x02";
+pub(crate) const PRESENT: &[u8] = b"\x02";
 
 /// The digit of a number below 16.
 fn digit_of(n: u8) -> u8
@@ -79,7 +79,7 @@ fn digit_of(n: u8) -> u8
 }
 
 /// Puts the canonical spelling of a text and the byte that ends it.
-fn prepend_ended(case: Case, text: &[u8], out: &mut [u8], len: usize) -> usize
+pub(crate) fn prepend_ended(case: Case, text: &[u8], out: &mut [u8], len: usize) -> usize
     ensures room { length out.new ≡ length out.old }
     ensures puts { Puts (spec.ended (canonical_in case text.now)) out.old len out.new result }
 {
@@ -88,7 +88,11 @@ fn prepend_ended(case: Case, text: &[u8], out: &mut [u8], len: usize) -> usize
 }
 
 /// Puts an optional text.
-fn prepend_optional<K: TextKind>(text: Option<&Text<'_, K>>, out: &mut [u8], len: usize) -> usize
+pub(crate) fn prepend_optional<K: TextKind>(
+    text: Option<&Text<'_, K>>,
+    out: &mut [u8],
+    len: usize,
+) -> usize
     ensures room { length out.new ≡ length out.old }
     ensures puts { Puts (spec.optional spec.ended (option_map (canonical_in K.case) (option_copied text.entry))) out.old len out.new result }
 {
@@ -102,7 +106,7 @@ fn prepend_optional<K: TextKind>(text: Option<&Text<'_, K>>, out: &mut [u8], len
 }
 
 /// Puts the scheme, if there is one.
-fn prepend_scheme(scheme: &Option<Scheme<'_>>, out: &mut [u8], len: usize) -> usize
+pub(crate) fn prepend_scheme(scheme: &Option<Scheme<'_>>, out: &mut [u8], len: usize) -> usize
     ensures room { length out.new ≡ length out.old }
     ensures puts { Puts (spec.optional spec.ended (option_map schemes.canonical_text scheme.now)) out.old len out.new result }
 {
@@ -153,7 +157,7 @@ fn segment_digits(segment: u16) -> [u8; 4]
 }
 
 /// Puts a port, if there is one.
-fn prepend_port(port: Option<u16>, out: &mut [u8], len: usize) -> usize
+pub(crate) fn prepend_port(port: Option<u16>, out: &mut [u8], len: usize) -> usize
     ensures room { length out.new ≡ length out.old }
     ensures puts { Puts (spec.optional (spec.digits 10 5) port) out.old len out.new result }
 {
@@ -194,7 +198,7 @@ fn prepend_four(a: u8, b: u8, c: u8, d: u8, out: &mut [u8], len: usize) -> usize
 }
 
 /// Puts the digits of an IPv4 address.
-fn prepend_octets(address: Ipv4Addr, out: &mut [u8], len: usize) -> usize
+pub(crate) fn prepend_octets(address: Ipv4Addr, out: &mut [u8], len: usize) -> usize
     ensures room { length out.new ≡ length out.old }
     ensures puts { Puts (flat_map (spec.digits 16 2) address) out.old len out.new result }
 {
@@ -215,7 +219,7 @@ fn prepend_each(segments: &[u16], out: &mut [u8], len: usize) -> usize
 }
 
 /// Puts the digits of an IPv6 address.
-fn prepend_segments(address: Ipv6Addr, out: &mut [u8], len: usize) -> usize
+pub(crate) fn prepend_segments(address: Ipv6Addr, out: &mut [u8], len: usize) -> usize
     ensures room { length out.new ≡ length out.old }
     ensures puts { Puts (flat_map (spec.digits 16 4) address) out.old len out.new result }
 {

@@ -15,6 +15,7 @@ pub mod laws;
 pub mod origins;
 pub mod pair_edits;
 pub mod pairs;
+pub mod place_keys;
 pub mod places;
 pub mod put;
 pub mod readers;

@@ -1,8 +1,8 @@
 -- Sort keys order references as their components do.
-use Rattle.std.proofs.Common.{◌≡◌, ◌↔◌, ℕ, zero, suc, ◌+◌, ◌*◌, ◌/◌, ◌%◌, ◌<◌, ◌≤◌, Bool, true, false, List, [], ◌∷◌, ◌++◌, map, length, Option, Some, None, refl, sym, ap, subst, ◌∙◌, append_assoc, append-nil, arith}
-use Rattle.std.specs.Prelude.{◌⊎◌, ◌^◌, ◌==◌, ◌&&◌, ◌||◌, not, IfSome, cond, nat_le, nat_lt, slice_index}
+use Rattle.std.proofs.Common.{◌≡◌, ◌↔◌, ℕ, zero, suc, ◌+◌, ◌/◌, ◌%◌, ◌<◌, ◌≤◌, Bool, true, false, List, [], ◌∷◌, ◌++◌, Option, Some, None, refl, sym, ap, subst, ◌∙◌, append_assoc, append-nil, arith}
+use Rattle.std.specs.Prelude.{◌^◌, IfSome, cond, nat_lt}
 use Rattle.std.specs.Cmp.Lexicographic.{nat_list_cmp_total, slice_cmp}
-use Rattle.std.specs.List.{flat_map, list_all}
+use Rattle.std.specs.List.{flat_map}
 use Rattle.std.specs.Option.{option_cmp, option_map}
 use Rattle.std.specs.Ordering.{nat_cmp, ordering_then}
 use Rattle.std.specs.declared.cmp.Ordering.{Ordering}
@@ -21,7 +21,7 @@ use Rattle.uriparse_text.specs.declared.internal.class.Class.{Class}
 use Rattle.uriparse_text.specs.declared.internal.class.Class.TheVariants as class
 use Rattle.uriparse_text.specs.declared.internal.token.Case.TheVariants as case
 use Rattle.uriparse_text.specs.Address.{IsOctets, IsSegments}
-use Rattle.uriparse_text.specs.Bytes.{is_hex, is_sub_delim, is_unreserved, percent}
+use Rattle.uriparse_text.specs.Bytes.{is_hex, is_sub_delim, is_unreserved}
 use Rattle.uriparse_text.specs.Canonical.{canonical, canonical_lowered}
 use Rattle.uriparse_text.specs.Classes.{is_plain}
 use Rattle.uriparse_text.specs.Faults.{IsIn}
@@ -50,7 +50,7 @@ use Rattle.uriparse_reference.proofs.lemmas.equality.OrderLemmas.{order_same}
 use Rattle.uriparse_reference.proofs.lemmas.reading.CharacterLemmas.{AreUriBytes, is_uri_byte, uri_bytes-in_class, uri_bytes-path, uri_bytes-scheme, uri_bytes-spelled}
 use Rattle.uriparse_reference.proofs.lemmas.reading.SpellingLemmas.{valid_placed}
 use Rattle.uriparse.specs.SortKey.{AreKeyBytes, absent, authority_key, digits, end, ended, host_key, is_key_byte, key_order, optional, present, sort_key, version}
-use Rattle.uriparse.proofs.lemmas.SortLemmas.{AreAbove, AreBelow, Carries, digits_carry, ended_carries, lists_carry, optional_carries, then_assoc}
+use Rattle.uriparse.proofs.lemmas.SortLemmas.{AreAbove, AreBelow, Carries, digits_carry, ended_carries, lists_carry, then_assoc}
 
 -- ---- the bytes of canonical spellings
 
@@ -104,10 +104,10 @@ name_above n is = above-in_class class.Name (canonical_lowered n) (IsIn-canonica
 future_above : (f : List ℕ) → host.Valid (IPvFuture f) → AreAbove (canonical_lowered f)
 future_above f is = weaker is_future_byte (λ b. nat_lt end b) future_byte (canonical_lowered f) (IsFuture-bytes (canonical_lowered f) (IsFuture-canonical_lowered f is))
 
-octets_below : (a : List ℕ) → IsOctets a → AreBelow (16 ^ 2) a
+pub octets_below : (a : List ℕ) → IsOctets a → AreBelow (16 ^ 2) a
 octets_below a is = is.fit
 
-segments_below : (a : List ℕ) → IsSegments a → AreBelow (16 ^ 4) a
+pub segments_below : (a : List ℕ) → IsSegments a → AreBelow (16 ^ 4) a
 segments_below a is = is.fit
 
 pub hosts_carry : (g h : Host) → host.Valid g → host.Valid h → (r s : List ℕ)
@@ -133,7 +133,7 @@ hosts_carry (RegisteredName m) (IPvFuture g) v w r s = refl
 
 -- ---- authorities
 
-ports_carry : (m n : Option ℕ) → IfSome m port.IsPort → IfSome n port.IsPort → (r s : List ℕ)
+pub ports_carry : (m n : Option ℕ) → IfSome m port.IsPort → IfSome n port.IsPort → (r s : List ℕ)
     → slice_cmp nat_cmp (optional (digits 10 5) m ++ r) (optional (digits 10 5) n ++ s) ≡ ordering_then (option_cmp nat_cmp m n) (slice_cmp nat_cmp r s)
 ports_carry None None v w r s = refl
 ports_carry None (Some n) v w r s = refl
@@ -249,21 +249,21 @@ never_spelled p q s = no_byte p.scheme _ (uri_bytes-spelled (sort_key p) q s)
 
 -- ---- the bytes of a key
 
-key_byte : (b : ℕ) → is_uri_byte b ≡ true → is_key_byte b ≡ true
+pub key_byte : (b : ℕ) → is_uri_byte b ≡ true → is_key_byte b ≡ true
 unfolding is_unreserved is_sub_delim
 key_byte b h = grind (arith, nat_tests)
 
-joined : (t u : List ℕ) → AreKeyBytes t → AreKeyBytes u → AreKeyBytes (t ++ u)
+pub joined : (t u : List ℕ) → AreKeyBytes t → AreKeyBytes u → AreKeyBytes (t ++ u)
 joined t u h k = list_all-append is_key_byte t u ∙ and_from _ _ h k
 
-of_uri_bytes : (t : List ℕ) → AreUriBytes t → AreKeyBytes (ended t)
+pub of_uri_bytes : (t : List ℕ) → AreUriBytes t → AreKeyBytes (ended t)
 of_uri_bytes t h = joined t (end ∷ []) (weaker is_uri_byte is_key_byte key_byte t h) refl
 
-optional_bytes : {A : Type 0} (ok : A → Type 0) (f : A → List ℕ) → ((x : A) → ok x → AreKeyBytes (f x)) → (o : Option A) → IfSome o ok → AreKeyBytes (optional f o)
+pub optional_bytes : {A : Type 0} (ok : A → Type 0) (f : A → List ℕ) → ((x : A) → ok x → AreKeyBytes (f x)) → (o : Option A) → IfSome o ok → AreKeyBytes (optional f o)
 optional_bytes ok f h None v = refl
 optional_bytes ok f h (Some x) v = and_from (is_key_byte present) _ refl (h x v)
 
-in_class : (c : Class) (o : Option (List ℕ)) → IfSome o (IsIn c) → AreKeyBytes (optional ended (option_map canonical o))
+pub in_class : (c : Class) (o : Option (List ℕ)) → IfSome o (IsIn c) → AreKeyBytes (optional ended (option_map canonical o))
 in_class c None i = refl
 in_class c (Some t) i = and_from (is_key_byte present) _ refl (of_uri_bytes (canonical t) (uri_bytes-in_class c (canonical t) (IsIn-canonical_in c case.Kept t i)))
 
@@ -281,12 +281,12 @@ digits_bytes base some few (suc k) n h =
     let q = (div-lt_iff_lt-mul pos).1 (subst (λ x. n < x) (pow-succ' base k) h) in
     and_from _ _ (digit_byte (n / base ^ k) (omega arith)) (digits_bytes base some few k (n % base ^ k) (mod-lt n pos))
 
-lists_bytes : (k : ℕ) (xs : List ℕ) → AreBelow (16 ^ k) xs → AreKeyBytes (flat_map (digits 16 k) xs)
+pub lists_bytes : (k : ℕ) (xs : List ℕ) → AreBelow (16 ^ k) xs → AreKeyBytes (flat_map (digits 16 k) xs)
 lists_bytes k [] v = refl
 lists_bytes k (x ∷ xs) v =
     joined (digits 16 k x) (flat_map (digits 16 k) xs) (digits_bytes 16 (omega arith) (omega arith) k x (v 0)) (lists_bytes k xs (λ i. v (suc i)))
 
-future_key : (b : ℕ) → is_future_byte b ≡ true → is_key_byte b ≡ true
+pub future_key : (b : ℕ) → is_future_byte b ≡ true → is_key_byte b ≡ true
 unfolding is_unreserved is_sub_delim
 future_key b h = grind (arith, nat_tests)
 
@@ -296,7 +296,7 @@ host_bytes (IPv6Address a) v = lists_bytes 4 a (segments_below a v)
 host_bytes (IPvFuture f) v = joined (canonical_lowered f) (end ∷ []) (weaker is_future_byte is_key_byte future_key (canonical_lowered f) (IsFuture-bytes (canonical_lowered f) (IsFuture-canonical_lowered f v))) refl
 host_bytes (RegisteredName n) v = of_uri_bytes (canonical_lowered n) (uri_bytes-in_class class.Name (canonical_lowered n) (IsIn-canonical_in class.Name case.Lowered n v))
 
-port_bytes : (n : ℕ) → port.IsPort n → AreKeyBytes (digits 10 5 n)
+pub port_bytes : (n : ℕ) → port.IsPort n → AreKeyBytes (digits 10 5 n)
 port_bytes n v = digits_bytes 10 (omega arith) (omega arith) 5 n (omega arith)
 
 authority_bytes : (a : AuthorityParts) → authority.Valid a → AreKeyBytes (authority_key a)
@@ -328,5 +328,8 @@ all_small : (t : List ℕ) → AreKeyBytes t → All (λ b. b < 128) t
 all_small [] h = All-nil (λ b. b < 128)
 all_small (b ∷ t) h = let both = and_parts (is_key_byte b) _ h in All-cons (λ b. b < 128) b t (small_byte b both.0) (all_small t both.1)
 
+pub IsUtf8-bytes : (t : List ℕ) → AreKeyBytes t → IsUtf8 t
+IsUtf8-bytes t h = IsUtf8-from_ascii t (IsAscii-from_all t (all_small t h))
+
 pub IsUtf8-key : (p : Parts) → Valid p → IsUtf8 (sort_key p)
-IsUtf8-key p v = IsUtf8-from_ascii (sort_key p) (IsAscii-from_all (sort_key p) (all_small (sort_key p) (key_bytes p v)))
+IsUtf8-key p v = IsUtf8-bytes (sort_key p) (key_bytes p v)
