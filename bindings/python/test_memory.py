@@ -43,6 +43,9 @@ CALLS = [
     lambda: uriparse.key(LONG), lambda: uriparse.normal_key(LONG.encode()), lambda: uriparse.page_key(URI), lambda: uriparse.key_many([LONG, "a b"], "page"),
     lambda: uriparse.is_ambiguous("..;a"), lambda: uriparse.same_origin(LONG, URI), lambda: uriparse.trim_link(" <URL:" + LONG + ">"),
     lambda: uriparse.form_decode("%c3%a9+" * 1000), lambda: uriparse.pair_values(LONG, "a"), lambda: uriparse.pair_values(b"s:", b"a"),
+    lambda: uriparse.segments(LONG), lambda: uriparse.segments(b"/a%2fb"), lambda: uriparse.without_default_port(LONG), lambda: uriparse.mask_password(URI),
+    lambda: uriparse.request_target(LONG), lambda: uriparse.request_target("s:a"),
+    lambda: uriparse.host_is_within_any(URI, "example.com example.org"),
     lambda: uriparse.normalize(LONG), lambda: uriparse.normalize(bytearray(b"A:")), lambda: uriparse.resolve(URI, LONG), lambda: uriparse.resolve(b"s:a", b"b"),
     lambda: uriparse.relativize(LONG, URI), lambda: uriparse.origin(URI), lambda: uriparse.origin("file:///a"), lambda: uriparse.equal(LONG, URI),
     lambda: uriparse.compare(LONG, URI), lambda: uriparse.is_within(URI, URI), lambda: uriparse.host_is_within(URI, "example.com"),
@@ -52,7 +55,8 @@ CALLS = [
     lambda: uriparse.with_appended_pair(URI, "a", 7), lambda: uriparse.without_pairs(LONG, "a", "x*"), lambda: uriparse.without_pairs(URI),
     lambda: uriparse.without_pair(URI, "x"), lambda: uriparse.pairs("a=1&b&\u00e9=\u00e9"), lambda: uriparse.pairs(None), lambda: URI / "a b",
     lambda: uriparse.normalize_many(MANY), lambda: uriparse.resolve_many("s:a/" + "b" * 2000, MANY), lambda: uriparse.resolve_many(bytearray(b"s:"), [b"a"]),
-    lambda: uriparse.relativize_many("s:a/", MANY), lambda: uriparse.is_within_many(MANY, "s:"),
+    lambda: uriparse.escape_many(MANY), lambda: uriparse.pair_many(MANY, "a"), lambda: uriparse.without_pairs_many(MANY, "a", "b*"),
+    lambda: uriparse.get_many("host_kind", MANY), lambda: uriparse.relativize_many("s:a/", MANY), lambda: uriparse.is_within_many(MANY, "s:"),
     lambda: uriparse.host_is_within_many(MANY, "h"), lambda: uriparse.host_is_within_many([b"//h"], bytearray(b"h")),
     lambda: list(map(bool, uriparse.parse_many(MANY))), lambda: uriparse.get_many("host", iter(MANY)),
     lambda: uriparse.normalize_many([bytearray(b"%7e"), memoryview(b"--%7e")[2:]])]
@@ -64,13 +68,15 @@ REJECTED = [
     lambda: uriparse.normalize(memoryview(b"abcd")[::2]), lambda: uriparse.host_is_within("//h", "h:80"), lambda: uriparse.decode("a#"),
     lambda: uriparse.is_ambiguous("a/b"), lambda: uriparse.trim_link(SURROGATE), lambda: uriparse.form_decode("a#"), lambda: uriparse.host_address("a b"),
     lambda: uriparse.pair_values("?a=1&a=%ff", "a"), lambda: uriparse.same_origin("a", "%"), lambda: uriparse.pair_values("?a", SURROGATE),
-    lambda: uriparse.decode("%ff"), lambda: uriparse.escape(SURROGATE), lambda: uriparse.encode("pair", SURROGATE), lambda: uriparse.pairs(SURROGATE),
+    lambda: uriparse.segments(SURROGATE), lambda: uriparse.without_default_port("a b"), lambda: uriparse.mask_password("//u:%@h"), lambda: uriparse.request_target("a b"),
+    lambda: uriparse.host_is_within_any("//h", "h h:80"), lambda: uriparse.decode("%ff"), lambda: uriparse.escape(SURROGATE), lambda: uriparse.encode("pair", SURROGATE), lambda: uriparse.pairs(SURROGATE),
     lambda: uriparse.replace("//h", host="a/b"), lambda: uriparse.replace("a", port=1), lambda: uriparse.replace("a", host=b"h"),
     lambda: uriparse.with_pair("s:", "a", SURROGATE), lambda: uriparse.without_pairs("?a", "b#"), lambda: uriparse.normalize_many(MANY, "raise"),
     lambda: uriparse.parse_many(["a", b"a"]), lambda: uriparse.get_many("host", ["a", None]), lambda: uriparse.normalize_many("a"),
     lambda: uriparse.resolve("s:", base="s:"), lambda: uriparse.normalize(other="a"), lambda: replace(READ, host="a/b"),
     lambda: uriparse.resolve_many("s:", ["a", "%"], "raise"), lambda: uriparse.is_within_many(["s:", "%"], "s:", "raise"),
-    lambda: uriparse.host_is_within_many(["a"], SURROGATE)]
+    lambda: uriparse.host_is_within_many(["a"], SURROGATE), lambda: uriparse.pair_many(["?a=%ff"], "a"), lambda: uriparse.escape_many([SURROGATE]),
+    lambda: uriparse.without_pairs_many(["a", "%"], "a", errors="raise")]
 
 
 def is_frameless(error):

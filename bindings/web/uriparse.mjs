@@ -41,6 +41,7 @@ const CODES = {
   0x81: ["scheme", "invalid scheme character"],
   0x82: ["scheme", "scheme starts with non-alphabetic character"],
   0x90: [null, "no key has these flags"],
+  0x91: ["path", "the path is in no target of a request"],
   // codes.tsv: end
 };
 
@@ -54,6 +55,7 @@ const MISSING_HOST = 11;
 const BAD_NAMES = 13;
 const NO_PAIRS = 14;
 const NO_ADDRESS = 15;
+const NO_TARGET = 0x91;
 const SCHEME_LETTER = 0x82;
 const IN_BASE = 0x100;
 const HOST_KINDS = { 1: "name", 4: "ipv4", 6: "ipv6", 7: "ipvfuture" };
@@ -548,6 +550,34 @@ class URIs {
     return this.#bytes[next] !== 0;
   }
 
+  /** Whether the host of a reference is within one of several domains, which spaces separate. Each of them is read. */
+  hostIsWithinAny(text, domains) {
+    text = textOf(text);
+    domains = textOf(domains);
+    const { spans, next } = this.#put(text, domains);
+    const code = this.#calls.uriparse_host_is_within_any(...spans, BigInt(next));
+    if (code & IN_BASE) {
+      throw new URIParseError(code, this.#placeInDomains(domains, code), domains, "domains");
+    }
+    if (code !== 0) {
+      throw this.#error(code, text);
+    }
+    return this.#bytes[next] !== 0;
+  }
+
+  // Where the first of several domains that is no host is wrong, among all of them.
+  #placeInDomains(domains, code) {
+    let begin = 0;
+    for (const domain of domains.split(" ")) {
+      const place = this.#placeIn("host", domain, code);
+      if (place !== null) {
+        return begin + place;
+      }
+      begin += domain.length + 1;
+    }
+    return null;
+  }
+
   /** What the host of a reference may be taken for. */
   hostFlags(text) {
     const flags = this.#word(this.#ofOne("uriparse_host_flags", text));
@@ -692,6 +722,35 @@ class URIs {
     }
     const at = code === MISSING_HOST ? -1 : set.indexOf(meaning(code)[0]);
     return at < 0 ? new URIParseError(code, null, text, "changes") : this.#errorIn(set[at], code, values[at], set[at]);
+  }
+
+  /** A reference without its port, if that is the default port of its scheme. All else stays, byte for byte. */
+  withoutDefaultPort(text) {
+    return this.#written("uriparse_without_default_port", [textOf(text)]);
+  }
+
+  /** A reference with "***" in place of its password, if it has one. All else stays, byte for byte. */
+  maskPassword(text) {
+    return this.#written("uriparse_mask_password", [textOf(text)]);
+  }
+
+  /** The path and the query of a reference, as an HTTP request has them (RFC 9112, section 3.2.1), or null: its path begins without a "/". */
+  requestTarget(text) {
+    const bytes = this.#part("uriparse_request_target", textOf(text), NO_TARGET);
+    return bytes && this.#string(bytes);
+  }
+
+  /** The segments of a path: the pieces between its "/", without one before a leading "/". */
+  segments(path) {
+    const { spans, next } = this.#put(wellFormed(path));
+    const span = this.#words.subarray(next / 4);
+    const found = [];
+    let at = 0n;
+    while (this.#calls.uriparse_next_segment(...spans, at, BigInt(next)) & 1) {
+      found.push(this.#decoder.decode(this.#bytes.subarray(this.#base + span[BEGIN], this.#base + span[END])));
+      at = BigInt(span[END] + 1);
+    }
+    return found;
   }
 
   /** The pairs of a query: the pieces between its "&", each a name and, after its first "=", a value or null. None for null. */

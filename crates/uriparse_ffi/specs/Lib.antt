@@ -7,6 +7,10 @@ pub mod Pairs
 pub mod Put
 pub mod Changes
 pub mod Checks
+pub mod Domains
+pub mod Hidden
 pub mod Places
 pub mod Readers
+pub mod Requests
+pub mod Segments
 pub mod Spans
