@@ -65,6 +65,13 @@ uint32_t uriparse_host_is_within(uriparse_bytes text, size_t len, uriparse_bytes
   return proved_host_is_within(text_of(text, len), len, text_of(domain, domain_len), domain_len, within);
 }
 
+uint32_t proved_host_is_within_any(const uint8_t *text, size_t len, const uint8_t *domains, size_t domains_len,
+                                   bool *within);
+uint32_t uriparse_host_is_within_any(uriparse_bytes text, size_t len, uriparse_bytes domains, size_t domains_len,
+                                     bool *within) {
+  return proved_host_is_within_any(text_of(text, len), len, text_of(domains, domains_len), domains_len, within);
+}
+
 uint32_t proved_host_flags(const uint8_t *text, size_t len, uint32_t *flags);
 uint32_t uriparse_host_flags(uriparse_bytes text, size_t len, uint32_t *flags) {
   return proved_host_flags(text_of(text, len), len, flags);
@@ -137,6 +144,22 @@ uint32_t uriparse_change(uriparse_bytes text, size_t len, const struct uriparse_
                          size_t values_len, uriparse_buffer out, size_t room, size_t *needed) {
   return proved_change(text_of(text, len), len, changes, text_of(values, values_len), values_len, room_of(out, room),
                        room, needed);
+}
+
+uint32_t proved_without_default_port(const uint8_t *text, size_t len, uint8_t *out, size_t room, size_t *needed);
+uint32_t uriparse_without_default_port(uriparse_bytes text, size_t len, uriparse_buffer out, size_t room,
+                                       size_t *needed) {
+  return proved_without_default_port(text_of(text, len), len, room_of(out, room), room, needed);
+}
+
+uint32_t proved_mask_password(const uint8_t *text, size_t len, uint8_t *out, size_t room, size_t *needed);
+uint32_t uriparse_mask_password(uriparse_bytes text, size_t len, uriparse_buffer out, size_t room, size_t *needed) {
+  return proved_mask_password(text_of(text, len), len, room_of(out, room), room, needed);
+}
+
+bool proved_next_segment(const uint8_t *path, size_t len, size_t at, struct uriparse_span *segment);
+bool uriparse_next_segment(uriparse_bytes path, size_t len, size_t at, struct uriparse_span *segment) {
+  return proved_next_segment(text_of(path, len), len, at, segment);
 }
 
 bool proved_next_pair(const uint8_t *query, size_t len, size_t at, struct uriparse_pair *pair);

@@ -1,5 +1,5 @@
 /* Rows with what is expected: the order of references and their origins, URIs and hosts within others, what hosts and segments may be taken
- * for, addresses and ports, pairs that are found, set, appended and dropped, forms and links. Prints as test.c does. */
+ * for, addresses and ports, segments, pairs that are found, set, appended and dropped, forms and links. Prints as test.c does. */
 #include "hostile.h"
 #include "rows.h"
 
@@ -22,6 +22,12 @@ static void host_is_within(const char *text, const char *domain, uint32_t expect
   bool within = !answer;
   uint32_t code = uriparse_host_is_within(text, strlen(text), domain, strlen(domain), &within);
   check(code == expected && within == (expected == URIPARSE_OK ? answer : !answer), "host_is_within", text);
+}
+
+static void host_is_within_any(const char *text, const char *domains, uint32_t expected, bool answer) {
+  bool within = !answer;
+  uint32_t code = uriparse_host_is_within_any(text, strlen(text), domains, strlen(domains), &within);
+  check(code == expected && within == (expected == URIPARSE_OK ? answer : !answer), "host_is_within_any", domains);
 }
 
 static void host_flags(const char *text, uint32_t expected, uint32_t flags) {
@@ -106,6 +112,36 @@ static uint32_t form_decode(const char *text, size_t len, uint8_t *out, size_t r
 
 static uint32_t trim_link(const char *text, size_t len, uint8_t *out, size_t room, size_t *needed) {
   return uriparse_trim_link(text, len, out, room, needed);
+}
+
+static uint32_t without_default_port(const char *text, size_t len, uint8_t *out, size_t room, size_t *needed) {
+  return uriparse_without_default_port(text, len, out, room, needed);
+}
+
+static uint32_t mask_password(const char *text, size_t len, uint8_t *out, size_t room, size_t *needed) {
+  return uriparse_mask_password(text, len, out, room, needed);
+}
+
+static void shows(uint32_t (*call)(const char *, size_t, uint8_t *, size_t, size_t *), const char *text, const char *expected) {
+  writes(call, call == mask_password ? "mask_password" : "without_default_port", text, strlen(text), expected, strlen(expected));
+}
+
+/* The segments of a path, each as [segment]. What is written beyond the end stays. */
+static void segments(const char *path, const char *expected) {
+  const size_t len = strlen(path), slash = path[0] == '/';
+  size_t at = 0;
+  char found[100] = "";
+  struct uriparse_span segment, before;
+  while (uriparse_next_segment(path, len, at, &segment)) {
+    check(segment.present == 1 && segment.begin == (at ? at : slash) && segment.end >= segment.begin && segment.end <= len, "place of a segment", path);
+    sprintf(found + strlen(found), "[%.*s]", (int)(segment.end - segment.begin), path + segment.begin);
+    at = segment.end + 1;
+  }
+  check(at == len + 1 && strcmp(found, expected) == 0, "segments", path);
+  memset(&before, 0x5a, sizeof before);
+  memcpy(&segment, &before, sizeof segment);
+  check(!uriparse_next_segment(path, len, len + 1, &segment) && !uriparse_next_segment(path, len, (size_t)-1, &segment)
+            && memcmp(&segment, &before, sizeof segment) == 0, "no segment", path);
 }
 
 static void default_port(const char *scheme, uint32_t expected) {
@@ -346,6 +382,56 @@ int main(void) {
   default_port("", 0);
   default_port("h:", 0);
 
+  host_is_within_any("http://WWW.Example.com./", "example.org example.com", URIPARSE_OK, true);
+  host_is_within_any("//a.example.org", "example.org example.com", URIPARSE_OK, true);
+  host_is_within_any("//evilexample.com", "example.org example.com", URIPARSE_OK, false);
+  host_is_within_any("//h", " h  ", URIPARSE_OK, true);
+  host_is_within_any("//h", "a\tb", URIPARSE_IN_BASE | URIPARSE_HOST_BYTE, false);
+  host_is_within_any("file:///a", "", URIPARSE_OK, false);
+  host_is_within_any("file:///a", " h ", URIPARSE_OK, false);
+  host_is_within_any("mailto:h", "h", URIPARSE_OK, false);
+  host_is_within_any("//1.2.3.4", "3.4 1.2.3.4", URIPARSE_OK, true);
+  host_is_within_any("//[::1]", "h [::0:1]", URIPARSE_OK, true);
+  host_is_within_any("//h", "h x:1", URIPARSE_IN_BASE | URIPARSE_HOST_BYTE, false);
+  host_is_within_any("//h", "[::g] x:1", URIPARSE_IN_BASE | URIPARSE_HOST_IPV6_BYTE, false);
+  host_is_within_any("//h:x", "x:1", URIPARSE_PORT_BYTE, false);
+
+  shows(without_default_port, "HTTP://u@H:080/%7e?#", "HTTP://u@H/%7e?#");
+  shows(without_default_port, "https://[::1]:443", "https://[::1]");
+  shows(without_default_port, "https://h:80", "https://h:80");
+  shows(without_default_port, "http://h:", "http://h:");
+  shows(without_default_port, "x://h:80", "x://h:80");
+  shows(without_default_port, "//h:80", "//h:80");
+  shows(without_default_port, "http:80", "http:80");
+  check(without_default_port("http://h:x", 10, out, sizeof out, &needed) == URIPARSE_PORT_BYTE && needed == 0, "without_default_port rejects", "http://h:x");
+
+  shows(mask_password, "ftp://u:secret@h:1/a?b#c", "ftp://u:***@h:1/a?b#c");
+  shows(mask_password, "//:p@H", "//:***@H");
+  shows(mask_password, "//u:@h", "//u:***@h");
+  shows(mask_password, "//u:p:q@[::1]/%7e", "//u:***@[::1]/%7e");
+  shows(mask_password, "//u@h:1", "//u@h:1");
+  shows(mask_password, "a:b:c@d", "a:b:c@d");
+  shows(mask_password, "", "");
+  check(mask_password("//u:%@h", 7, out, sizeof out, &needed) == URIPARSE_PASSWORD_ESCAPE && needed == 0, "mask_password rejects", "//u:%@h");
+
+  segments("/a/b", "[a][b]");
+  segments("a/b", "[a][b]");
+  segments("", "[]");
+  segments("/", "[]");
+  segments("//", "[][]");
+  segments("//a", "[][a]");
+  segments("/a/", "[a][]");
+  segments("a//b/", "[a][][b][]");
+  segments("/%2F/..", "[%2F][..]");
+  segments("a b?c/#", "[a b?c][#]");
+  {
+    struct uriparse_span segment;
+    check(uriparse_next_segment("/ab/c", 5, 2, &segment) && segment.begin == 2 && segment.end == 3, "from within a segment", "/ab/c");
+    check(uriparse_next_segment("ab/c", 4, 2, &segment) && segment.begin == 2 && segment.end == 2, "from a slash", "ab/c");
+    check(uriparse_next_segment(NULL, 0, 0, &segment) && segment.present && segment.begin == 0 && segment.end == 0
+              && !uriparse_next_segment(NULL, 0, 1, &segment), "next_segment", "NULL");
+  }
+
   finds("a=1&b=%26&c", "b", 4, "%26");
   finds("a=1&b=%26&c", "c", 10, NULL);
   finds("a=1&%61=2", "a", 0, "1");
@@ -412,6 +498,9 @@ int main(void) {
   check(uriparse_compare(NULL, 0, NULL, 0, &order) == URIPARSE_OK && order == 0, "compare", "NULL");
   check(uriparse_is_within("s:", 2, NULL, 0, &within) == (URIPARSE_IN_BASE | URIPARSE_NO_SCHEME) && within, "is_within", "NULL");
   check(uriparse_host_is_within(NULL, 0, NULL, 0, &within) == URIPARSE_OK && !within, "host_is_within", "NULL");
+  check(uriparse_host_is_within_any(NULL, 0, NULL, 0, &within) == URIPARSE_OK && !within, "host_is_within_any", "NULL");
+  check(uriparse_without_default_port(NULL, 0, NULL, 0, &needed) == URIPARSE_OK && needed == 0, "without_default_port", "NULL");
+  check(uriparse_mask_password(NULL, 0, NULL, 0, &needed) == URIPARSE_OK && needed == 0, "mask_password", "NULL");
   check(uriparse_default_port(NULL, 0) == 0, "default_port", "NULL");
   check(uriparse_set_pair(NULL, 0, NULL, 0, NULL, 0, false, NULL, 0, &needed) == URIPARSE_OK && needed == 0, "set_pair", "NULL");
   check(uriparse_append_pair(NULL, 0, NULL, 0, NULL, 0, true, NULL, 0, &needed) == URIPARSE_NO_ROOM && needed == 1, "append_pair", "NULL");

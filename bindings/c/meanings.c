@@ -127,6 +127,21 @@ static void lists_values(struct field query, struct field name) {
   }
 }
 
+static void lists_segments(struct field text) {
+  struct uriparse_parts parts;
+  struct uriparse_span segment;
+  const uint32_t code = uriparse_parse(text.at, text.len, &parts);
+  len = 0;
+  if (code != URIPARSE_OK) {
+    rejects_text(code, 1, text);
+    return;
+  }
+  const char *path = text.at + parts.path.begin;
+  for (size_t at = 0; uriparse_next_segment(path, parts.path.end - parts.path.begin, at, &segment); at = segment.end + 1) {
+    len += (size_t)sprintf(out + len, "<%.*s>", (int)(segment.end - segment.begin), path + segment.begin);
+  }
+}
+
 /* The reference with another query, or without one. */
 static void has_query(struct field text, const char *query, size_t size, bool is_present) {
   struct uriparse_changes changes = {0};
@@ -201,8 +216,14 @@ static void replaces(struct field text, struct field name, struct field value) {
 
 /* What a call writes of a reference; nothing if it has no such part. */
 static void writes_part(const char *call, struct field text) {
-  const bool is_origin = strcmp(call, "origin") == 0;
-  const uint32_t code = is_origin ? uriparse_origin(text.at, text.len, out, ROOM, &len) : uriparse_host_address(text.at, text.len, out, ROOM, &len);
+  static const struct {
+    const char *name;
+    uint32_t (*call)(uriparse_bytes, size_t, uriparse_buffer, size_t, size_t *);
+  } calls[] = {{"origin", uriparse_origin}, {"host_address", uriparse_host_address}, {"without_default_port", uriparse_without_default_port},
+               {"mask_password", uriparse_mask_password}};
+  size_t which = 0;
+  while (strcmp(calls[which].name, call) != 0) which++;
+  const uint32_t code = calls[which].call(text.at, text.len, out, ROOM, &len);
   if (code == URIPARSE_NO_ORIGIN || code == URIPARSE_NO_ADDRESS) {
     has_none();
   } else if (code != URIPARSE_OK) {
@@ -295,6 +316,26 @@ static void compares(const char *call, struct field text, struct field other) {
   }
 }
 
+/* Of the first domain that is no host the place is among all of them. */
+static void tests_domains(struct field text, struct field domains) {
+  bool is_within = false;
+  const uint32_t code = uriparse_host_is_within_any(text.at, text.len, domains.at, domains.len, &is_within);
+  prints(is_within ? "true" : "false");
+  if (code != URIPARSE_OK && (code & URIPARSE_IN_BASE) == 0) {
+    rejects_text(code, 1, text);
+  } else if (code != URIPARSE_OK) {
+    struct field domain = domains;
+    long place = -1;
+    for (size_t at = 0; place < 0 && at <= domains.len; at += domain.len + 1) {
+      domain.at = domains.at + at;
+      domain.len = strcspn(domain.at, " ");
+      place = place_in_value(code, domain);
+      if (place >= 0) place += (long)at;
+    }
+    rejects(code, 2, place);
+  }
+}
+
 static bool is_one_of(const char *call, const char *const *names) {
   while (*names && strcmp(*names, call) != 0) names++;
   return *names != NULL;
@@ -304,7 +345,7 @@ static bool is_one_of(const char *call, const char *const *names) {
 static void answer(const struct meaning *row) {
   static const char *const reading[] = {"check", "port", "port_number", "host_kind", NULL};
   static const char *const of_pairs[] = {"pairs", "pair", "pair_values", "with_pair", "with_appended_pair", "without_pairs", "without_pair", NULL};
-  static const char *const with_part[] = {"origin", "host_address", NULL};
+  static const char *const with_part[] = {"origin", "host_address", "without_default_port", "mask_password", NULL};
   static const char *const decoding[] = {"decode", "form_decode", NULL};
   static const char *const writing[] = {"resolve", "relativize", "encode", "trim_link", "key", "page_key", NULL};
   static const char *const with_number[] = {"host_flags", "port_or_default", "is_normalized", "is_public", "hash", NULL};
@@ -325,6 +366,10 @@ static void answer(const struct meaning *row) {
     numbers(row->call, text);
   } else if (strcmp(row->call, "is_ambiguous") == 0) {
     checks_segment(text);
+  } else if (strcmp(row->call, "segments") == 0) {
+    lists_segments(text);
+  } else if (strcmp(row->call, "host_is_within_any") == 0) {
+    tests_domains(text, other);
   } else if (is_one_of(row->call, comparing)) {
     compares(row->call, text, other);
   } else if (strcmp(row->call, "replace") == 0) {

@@ -50,6 +50,12 @@ static std::string listed_values(std::string_view text, std::string_view name) {
   return all;
 }
 
+static std::string listed_segments(std::string_view text) {
+  std::string all;
+  for (const auto segment : uriparse::segments(uriparse::reference(text).path())) all.append("<").append(segment).append(">");
+  return all;
+}
+
 static uriparse::change *field_of(uriparse::changes &all, std::string_view name) {
   const std::pair<std::string_view, uriparse::change *> fields[] = {
       {"scheme", &all.scheme}, {"username", &all.username}, {"password", &all.password}, {"host", &all.host},
@@ -98,6 +104,10 @@ static const call_of_row calls[] = {
     {"page_key", [](auto text, auto, auto) { return uriparse::key(text, URIPARSE_KEY_PAGE); }},
     {"form_decode", [](auto text, auto, auto) { return uriparse::form_decode(text); }},
     {"pair_values", [](auto text, auto name, auto) { return listed_values(text, name); }},
+    {"segments", [](auto text, auto, auto) { return listed_segments(text); }},
+    {"without_default_port", [](auto text, auto, auto) { return uriparse::without_default_port(text); }},
+    {"mask_password", [](auto text, auto, auto) { return uriparse::mask_password(text); }},
+    {"host_is_within_any", [](auto text, auto domains, auto) { return shown(uriparse::host_is_within_any(text, domains)); }},
     {"origin", [](auto text, auto, auto) { return shown(uriparse::origin(text)); }},
     {"pairs", [](auto text, auto, auto) { return listed(uriparse::reference(text).query()); }},
     {"pair", [](auto text, auto name, auto) { return shown(uriparse::pair(text, name)); }},
@@ -156,7 +166,8 @@ static std::string by_c(std::string_view name, std::string_view base, std::strin
   while (names[which] != name) which++;
   const std::uint32_t code = call(which, base.data(), base.size(), text.data(), text.size(), &to);
   if (code != URIPARSE_OK) return "code " + std::to_string(code & ~std::uint32_t{URIPARSE_IN_BASE});
-  if (name == "equal" || name == "same_origin" || name == "is_normalized" || name == "is_public" || name == "is_ambiguous" || name == "is_within" || name == "host_is_within")
+  if (name == "equal" || name == "same_origin" || name == "is_normalized" || name == "is_public" || name == "is_ambiguous" || name == "is_within" || name == "host_is_within" ||
+      name == "host_is_within_any")
     return shown(to.equal);
   if (name == "compare") return std::to_string(to.order);
   if (name == "port_or_default") return to.order < 0 ? "\\N" : std::to_string(to.order);
@@ -180,6 +191,8 @@ static void check_random(std::string_view base, std::string_view text) {
       {"equal", [&] { return shown(uriparse::equal(base, text)); }}, {"compare", [&] { return std::to_string(uriparse::compare(base, text)); }},
       {"is_within", [&] { return shown(uriparse::is_within(text, base)); }},
       {"host_is_within", [&] { return shown(uriparse::host_is_within(text, base)); }},
+      {"host_is_within_any", [&] { return shown(uriparse::host_is_within_any(text, base)); }},
+      {"without_default_port", [&] { return uriparse::without_default_port(text); }}, {"mask_password", [&] { return uriparse::mask_password(text); }},
       {"host_flags", [&] { return std::to_string(uriparse::host_flags(text)); }}, {"hash", [&] { return std::to_string(uriparse::hash(text)); }},
       {"normalize", [&] { return uriparse::normalize(text); }}, {"resolve", [&] { return uriparse::resolve(base, text); }},
       {"relativize", [&] { return uriparse::relativize(base, text); }}, {"decode", [&] { return uriparse::decode(text); }},

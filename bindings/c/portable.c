@@ -184,6 +184,7 @@ OF_TWO(equal, bool)
 OF_TWO(compare, int32_t)
 OF_TWO(is_within, bool)
 OF_TWO(host_is_within, bool)
+OF_TWO(host_is_within_any, bool)
 OF_TWO(same_origin, bool)
 
 bool proved_is_uri(const uint8_t *text, size_t len) {
@@ -214,6 +215,8 @@ WRITES(escape)
 WRITES(form_decode)
 WRITES(host_address)
 WRITES(trim_link)
+WRITES(without_default_port)
+WRITES(mask_password)
 
 uint32_t proved_encode(uint32_t component, const uint8_t *bytes, size_t len, uint8_t *out, size_t room, size_t *needed) {
   if (!enter(len, room, 0, 0)) return without_memory(needed);
@@ -254,6 +257,15 @@ uint32_t proved_change(const uint8_t *text, size_t len, const struct uriparse_ch
   }
   uint32_t code = Z_uriparseZ_uriparse_change(&module, text_at, len, changes_at, values_at, values_len, at, room, needed_at);
   return written(code, at, needed_at, out, needed);
+}
+
+bool proved_next_segment(const uint8_t *path, size_t len, size_t begin, struct uriparse_span *segment) {
+  if (!enter(len, 0, 0, 0)) return false;
+  uint64_t path_at = put(path, len), at = place(24);
+  const bool is_there = (Z_uriparseZ_uriparse_next_segment(&module, path_at, len, begin, at) & 1) != 0;
+  if (is_there) *segment = take_span(at);
+  leave();
+  return is_there;
 }
 
 static bool take_pair(uint32_t is_there, uint64_t at, struct uriparse_pair *pair) {

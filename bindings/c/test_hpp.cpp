@@ -35,11 +35,10 @@ static std::string search_of(std::string_view page, std::string_view link) {
 
 // The target of a redirect, to follow, if it is allowed: over https, to a name within one of the domains, below the directory if there is one.
 static std::optional<std::string> allowed_target(std::string_view page, std::string_view location, std::optional<std::string_view> directory) {
-  const auto domains = {"example.com", "example.org"};
   try {
     const std::string target = uriparse::resolve(page, location);
     const uriparse::reference uri(target);
-    const bool is_within = std::any_of(domains.begin(), domains.end(), [&](auto domain) { return uriparse::host_is_within(target, domain); });
+    const bool is_within = uriparse::host_is_within_any(target, "example.com example.org");
     const std::string_view scheme_and_colon = std::string_view(target).substr(0, target.find(':') + 1);
     const bool is_allowed = uriparse::equal(scheme_and_colon, "https:") && !uri.username() &&
                             uri.host_kind() == URIPARSE_HOST_NAME && is_within && uriparse::host_flags(target) == 0 &&
@@ -227,6 +226,12 @@ static void check_checks() {
   check(throws([] { uriparse::is_within("s:", "%"); }, URIPARSE_PATH_ESCAPE, 1, 0), "is_within rejects the base");
   check(uriparse::host_is_within("//WWW.Example.com", "example.com") && !uriparse::host_is_within("//evilexample.com", "example.com"), "host_is_within");
   check(throws([] { uriparse::host_is_within("//h", "a b"); }, URIPARSE_HOST_BYTE, 1, 1), "host_is_within rejects");
+  check(uriparse::host_is_within_any("//a.example.org", "example.com example.org") && !uriparse::host_is_within_any("file:///a", ""), "host_is_within_any");
+  check(throws([] { uriparse::host_is_within_any("//h", "h  a:1"); }, URIPARSE_HOST_BYTE, 1, 4), "host_is_within_any rejects");
+  check(throws([] { uriparse::host_is_within_any("//h:x", "a:1"); }, URIPARSE_PORT_BYTE, 0, 4), "host_is_within_any rejects the text");
+  check(uriparse::without_default_port("HTTP://H:080/%7e") == "HTTP://H/%7e" && uriparse::without_default_port("//h:80") == "//h:80", "without_default_port");
+  check(uriparse::mask_password("//u:secret@h") == "//u:***@h" && uriparse::mask_password("//u@h") == "//u@h", "mask_password");
+  check(throws([] { uriparse::mask_password("//u:%@h"); }, URIPARSE_PASSWORD_ESCAPE, 0, 4), "mask_password rejects");
   check(uriparse::host_flags("//%31.2.3.4") == (URIPARSE_HIDES_ADDRESS | URIPARSE_MAY_BE_NUMERIC) && uriparse::host_flags("a") == 0, "host_flags");
   check(uriparse::default_port("HTTPS") == 443 && !uriparse::default_port("mailto"), "default_port");
   check(uriparse::same_origin("HTTPS://u@H:443/a", "https://h/b") && !uriparse::same_origin("file:///a", "file:///a"), "same_origin");
@@ -252,6 +257,17 @@ static void check_checks() {
             && uriparse::without_pairs("?utm_a#f", "utm_*") == "#f" && uriparse::without_pairs("a", "b") == "a", "without_pairs");
   check(throws([] { uriparse::without_pairs("?a", "b#"); }, URIPARSE_BAD_NAMES, 1, 1), "without_pairs rejects");
   check(uriparse::encode(URIPARSE_PAIR, "a&b=c d+") == "a%26b%3Dc%20d%2B", "encode a pair");
+}
+
+static std::string listed_segments(std::string_view path) {
+  std::string all;
+  for (const auto segment : uriparse::segments(path)) all.append(segment).append(";");
+  return all;
+}
+
+static void check_segments() {
+  check(listed_segments("/a%2Fb//..") == "a%2Fb;;..;" && listed_segments("a/") == "a;;", "segments");
+  check(listed_segments("") == ";" && listed_segments("/") == ";" && listed_segments(std::string_view()) == ";", "segments of nothing");
 }
 
 static void check_pairs() {
@@ -290,6 +306,7 @@ int main() {
   check_room();
   check_errors();
   check_checks();
+  check_segments();
   check_pairs();
   check_redirects();
   check(search_of("http://example.com/a/", "../find?x&q=R%26D#top") == "example.com: R&D", "search");

@@ -43,7 +43,7 @@ extern "C++" {
  * of the path, the colon rule, the query, the fragment; and within each of these the leftmost one.
  * `uriparse_error_component` returns the component that a code is about: `code & URIPARSE_COMPONENT_MASK` for the codes from 0x10 on.
  * `code & URIPARSE_IN_BASE` is set if `uriparse_resolve`, `uriparse_relativize` or `uriparse_is_within` rejects the base, or
- * `uriparse_host_is_within` the domain. Later versions may add codes. */
+ * `uriparse_host_is_within` the domain, or `uriparse_host_is_within_any` one of them. Later versions may add codes. */
 enum uriparse_code {
   /* codes.tsv: codes */
   URIPARSE_OK = 0,
@@ -295,6 +295,15 @@ uint32_t uriparse_is_within(uriparse_bytes text, size_t len, uriparse_bytes base
 uint32_t uriparse_host_is_within(uriparse_bytes text, size_t len, uriparse_bytes domain, size_t domain_len,
                                  bool *within);
 
+/* The same of several domains, which spaces separate in one string: writes to `*within` whether the host is one of them or
+ * within one, as `uriparse_host_is_within` says of each. A space at either end, or next to another one, names no domain, and
+ * an empty string has none, so within it is no host, not even an empty one.
+ *
+ * Each domain is read, also after one that the host is within. The first one that is no host is rejected with the code of its
+ * error and URIPARSE_IN_BASE. If the reference is faulty too, the error is the reference's. */
+uint32_t uriparse_host_is_within_any(uriparse_bytes text, size_t len, uriparse_bytes domains, size_t domains_len,
+                                     bool *within);
+
 /* Writes to `*flags` the sum of the enum uriparse_host_flag of the reference's host, or 0 without a host. */
 uint32_t uriparse_host_flags(uriparse_bytes text, size_t len, uint32_t *flags);
 
@@ -401,6 +410,31 @@ uint32_t uriparse_origin(uriparse_bytes text, size_t len, uriparse_buffer out, s
  * (URIPARSE_COLON_IN_SEGMENT). */
 uint32_t uriparse_change(uriparse_bytes text, size_t len, const struct uriparse_changes *changes, uriparse_bytes values,
                          size_t values_len, uriparse_buffer out, size_t room, size_t *needed);
+
+/* Writes to `out` the string of a reference without its port, if that is the default port of its scheme
+ * (`uriparse_default_port`), and else the string as it is, as `uriparse_normalize` writes. All other components keep their
+ * bytes: "HTTP://H:080/%7e" becomes "HTTP://H/%7e". The reference is equivalent (section 6.2.3), and `uriparse_equal` tells it
+ * from the one with the port. An empty port ("http://h:") stays. */
+uint32_t uriparse_without_default_port(uriparse_bytes text, size_t len, uriparse_buffer out, size_t room,
+                                       size_t *needed);
+
+/* Writes to `out` the string of a reference as it may be shown (section 7.5): with "***" in place of its password, also of an
+ * empty one, as `uriparse_normalize` writes. A reference without a password is written as it is, and all other components
+ * keep their bytes, so a secret elsewhere, as in the query, is still there. What is written is a reference. To remove the user
+ * information, use `uriparse_change`. */
+uint32_t uriparse_mask_password(uriparse_bytes text, size_t len, uriparse_buffer out, size_t room, size_t *needed);
+
+/* Writes to `*segment` where the first segment is that is left of a path from `at` on. Returns whether there is one: if `at`
+ * is greater than `len` there is none, and `*segment` is unchanged. To read all segments:
+ *
+ *     struct uriparse_span segment;
+ *     for (size_t at = 0; uriparse_next_segment(path, len, at, &segment); at = segment.end + 1) { .. }
+ *
+ * The segments are the pieces between the '/' (section 3.3). At 0 the path begins, and a '/' there precedes the first segment:
+ * "/a/b" and "a/b" have the segments "a" and "b". Each path has a segment at least, which is empty for "" and "/"; one that ends
+ * in '/' ends in an empty segment. Segments are as they stand in the text: `uriparse_decode` reads each, and dot segments are
+ * not removed. Any text is cut like that. Reads this segment alone. */
+bool uriparse_next_segment(uriparse_bytes path, size_t len, size_t at, struct uriparse_span *segment);
 
 /* Writes to `*pair` where the pair is that begins at `at` in a query, and where the next one begins. Returns whether there
  * is one: if `at` is greater than `len` there is none, and `*pair` is unchanged. To read all pairs:

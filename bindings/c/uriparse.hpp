@@ -81,6 +81,16 @@ inline std::optional<std::size_t> place_in(std::uint32_t component, std::string_
   return std::nullopt;
 }
 
+// Where the first of several domains that is no host is wrong, counted from the first one's start.
+inline std::optional<std::size_t> place_in_domains(std::string_view domains) {
+  for (std::size_t at = 0; at <= domains.size();) {
+    const std::size_t space = domains.find(' ', at), end = space == domains.npos ? domains.size() : space;
+    if (const auto place = place_in(URIPARSE_HOST, domains.substr(at, end - at))) return at + *place;
+    at = end + 1;
+  }
+  return std::nullopt;
+}
+
 inline void check(std::uint32_t code, std::string_view text, std::size_t argument = 0) {
   const bool has_scheme = (code & ~std::uint32_t{URIPARSE_IN_BASE}) != URIPARSE_NO_SCHEME;
   if (code != URIPARSE_OK) throw error(code, has_scheme ? place_of(text) : std::nullopt, argument);
@@ -185,6 +195,8 @@ inline std::uint64_t hash(input text) { return detail::read<std::uint64_t>(uripa
 inline std::string normalize(input text) { return detail::write(uriparse_normalize, text); }
 inline std::string escape(input text) { return detail::write(uriparse_escape, text); }
 inline std::string trim_link(input text) { return detail::write(uriparse_trim_link, text); }
+inline std::string without_default_port(input text) { return detail::write(uriparse_without_default_port, text); }
+inline std::string mask_password(input text) { return detail::write(uriparse_mask_password, text); }
 inline std::string resolve(input base, input text) { return detail::write(uriparse_resolve, base, text); }
 inline std::string relativize(input base, input uri) { return detail::write(uriparse_relativize, base, uri); }
 
@@ -200,6 +212,15 @@ inline bool host_is_within(input text, input domain) {
   bool within = false;
   const auto code = uriparse_host_is_within(text.data(), text.size(), domain.data(), domain.size(), &within);
   if ((code & URIPARSE_IN_BASE) != 0) throw error(code, detail::place_in(URIPARSE_HOST, domain), 1);
+  detail::check(code, text);
+  return within;
+}
+
+// The same of several domains, which spaces separate. Each is read, and the first one that is no host is rejected.
+inline bool host_is_within_any(input text, input domains) {
+  bool within = false;
+  const auto code = uriparse_host_is_within_any(text.data(), text.size(), domains.data(), domains.size(), &within);
+  if ((code & URIPARSE_IN_BASE) != 0) throw error(code, detail::place_in_domains(domains), 1);
   detail::check(code, text);
   return within;
 }
@@ -410,6 +431,22 @@ public:
   std::pair<std::string_view, view> operator*() const noexcept {
     return {detail::cut(query_, found_.name).value_or(""), detail::cut(query_, found_.value)};
   }
+};
+
+// The segments of a path, for a range-based `for`: one at least, which is empty for an empty path and for "/".
+class segments {
+  std::string_view path_;
+  uriparse_span found_{};
+  bool is_found_ = false;
+
+public:
+  explicit segments(input path) noexcept : path_(path), is_found_(uriparse_next_segment(path.data(), path.size(), 0, &found_)) {}
+  template <class Text, class = detail::if_dangling<Text>> explicit segments(Text &&) = delete;
+  segments begin() const noexcept { return *this; }
+  std::nullopt_t end() const noexcept { return std::nullopt; }
+  bool operator!=(std::nullopt_t) const noexcept { return is_found_; }
+  void operator++() noexcept { is_found_ = uriparse_next_segment(path_.data(), path_.size(), found_.end + 1, &found_); }
+  std::string_view operator*() const noexcept { return detail::cut(path_, found_).value_or(""); }
 };
 } // namespace uriparse
 

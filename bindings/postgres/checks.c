@@ -97,6 +97,19 @@ uri_host_is_within(PG_FUNCTION_ARGS)
 	PG_RETURN_BOOL(within);
 }
 
+PG_FUNCTION_INFO_V1(uri_host_is_within_any);
+Datum
+uri_host_is_within_any(PG_FUNCTION_ARGS)
+{
+	struct bytes text = argument(fcinfo, 0),
+				domains = argument(fcinfo, 1);
+	bool		within;
+
+	if (uriparse_host_is_within_any(text.at, text.len, domains.at, domains.len, &within) != URIPARSE_OK)
+		PG_RETURN_NULL();
+	PG_RETURN_BOOL(within);
+}
+
 /* The sum of enum uriparse_host_flag. */
 PG_FUNCTION_INFO_V1(uri_host_flags);
 Datum

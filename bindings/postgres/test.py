@@ -169,6 +169,13 @@ def test_rows(database: str) -> str:
         ("uri_host_inet('//h')", None), ("uri_host_inet('//127.1')", None), ("uri_host_inet('a b')", None),
         ("uri_form_decode('a+%2B%C3%A9')", "a +\u00c3\u00a9"), ("uri_form_decode('+%FF')", None), ("uri_form_decode('a%00')", None),
         ("uri_trim_link(' <URL:http://h/> ')", "http://h/"), ("uri_trim_link('')", ""),
+        ("uri_host_is_within_any('//a.example.org', 'example.com example.org')", "t"), ("uri_host_is_within_any(uri 'file:///a', '')", "f"),
+        ("uri_host_is_within_any('//h', 'h a:1')", None), ("uri_host_is_within_any('a b', 'h')", None), ("uri_host_is_within_any('//h', NULL)", None),
+        ("uri_without_default_port('HTTP://H:080/%7e')", "HTTP://H/%7e"), ("uri_without_default_port(uri '//h:80')", "//h:80"),
+        ("uri_without_default_port('a b')", None), ("uri_mask_password('ftp://u:secret@h')", "ftp://u:***@h"),
+        ("uri_mask_password(uri '//u:@h')", "//u:***@h"), ("uri_mask_password('a b')", None),
+        ("array_agg(s) FROM uri_segments('http://h/a%2Fb/%C3%A9//%FF/%00') AS s", '{a/b,\u00c3\u00a9,"",NULL,NULL}'),
+        ("count(*) FROM uri_segments(uri '')", "1"), ("count(*) FROM uri_segments('a b')", "0"), ("count(*) FROM uri_segments(NULL::text)", "0"),
         ("uri_param_values('?a=1&b&%61=R%26D&a&a=%FF&a=x%00', 'a')", '{1,R&D,"",NULL,NULL}'), ("uri_param_values(uri '?a', 'b')", "{}"),
         ("uri_param_values('a', 'a')", "{}"), ("uri_param_values('a b', 'a')", None), ("uri_param_values('?a', NULL)", None),
         ("uri_relativize('http://a/b/c', 'http://a/g#s')", "../g#s"), ("uri_relativize(uri 's:a', uri '/b')", None),
@@ -201,6 +208,8 @@ def expression_of(row: rows.Meaning, kind: str = "") -> str:
     if row.call == "pairs":
         return ("(SELECT coalesce(string_agg(concat('<', name, '=' || value, '>'), '' ORDER BY at), '') "
                 "FROM uri_pairs(%s) WITH ORDINALITY AS p (name, value, at))" % spelled(row.values[0]))
+    if row.call == "segments":
+        return "(SELECT string_agg('<' || s || '>', '' ORDER BY at) FROM uri_segments(%s) WITH ORDINALITY AS u (s, at))" % spelled(row.values[0])
     return "%s(%s%s)" % (rows.SQL_CALLS[row.call], kind, ", ".join(map(spelled, row.values)))
 
 
@@ -261,10 +270,13 @@ def test_changed_pairs(texts: List[bytes]) -> str:
         for call, left, right, found in (
                 ("uri_is_within", other, base, answer_of(uriparse.is_within, other, base)),
                 ("uri_host_is_within", text, domain, answer_of(uriparse.host_is_within, text, domain)),
+                ("uri_host_is_within_any", text, domain + b" x", answer_of(uriparse.host_is_within_any, text, domain + b" x")),
                 ("uri_compare", text, base, answer_of(uriparse.compare, text, base)),
                 ("uri_host_flags", text, None, answer_of(uriparse.host_flags, text)), ("uri_is_uri", text, None, uriparse.is_uri(text))):
             shown_answer = {True: b"true", False: b"false", None: None}[found] if isinstance(found, bool) or found is None else b"%d" % found
             lines.append((call, [left, right, None, shown_answer]))
+        lines.append(("uri_without_default_port", [text, None, None, uriparse.without_default_port(text)]))
+        lines.append(("uri_mask_password", [text, None, None, uriparse.mask_password(text)]))
     data = "".join("%d\t%s\t%s\n" % (at, call, "\t".join(
         "\\N" if value is None else value.hex() for value in values)) for at, (call, values) in enumerate(lines))
     psql("utf8", "CREATE TABLE hexed (at int, call text, a text, b text, c text, answer text)", "COPY hexed FROM STDIN", data=data.encode())
@@ -272,7 +284,9 @@ def test_changed_pairs(texts: List[bytes]) -> str:
     calls = " ".join("WHEN '%s' THEN (%s)::text" % (call, expression) for call, expression in (
         ("uri_with_param", "uri_with_param(a, b, c)"), ("uri_with_appended_param", "uri_with_appended_param(a, b, c)"),
         ("uri_without_param", "uri_without_param(a, b)"), ("uri_without_params", "uri_without_params(a, b, c)"),
-        ("uri_is_within", "uri_is_within(a, b)"), ("uri_host_is_within", "uri_host_is_within(a, b)"), ("uri_compare", "uri_compare(a, b)"),
+        ("uri_is_within", "uri_is_within(a, b)"), ("uri_host_is_within", "uri_host_is_within(a, b)"),
+        ("uri_host_is_within_any", "uri_host_is_within_any(a, b)"), ("uri_without_default_port", "uri_without_default_port(a)"),
+        ("uri_mask_password", "uri_mask_password(a)"), ("uri_compare", "uri_compare(a, b)"),
         ("uri_host_flags", "uri_host_flags(a)"), ("uri_is_uri", "uri_is_uri(a)")))
     psql("utf8", "CREATE TABLE called AS SELECT at, call, a, b, c, answer, CASE call %s END AS found FROM (SELECT at, call, %s FROM hexed) h" % (
         calls, columns))

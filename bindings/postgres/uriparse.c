@@ -193,6 +193,18 @@ write_escaped(const struct bytes *texts, char *out, size_t room, size_t *needed)
 }
 
 static uint32_t
+write_without_default_port(const struct bytes *texts, char *out, size_t room, size_t *needed)
+{
+	return uriparse_without_default_port(texts[0].at, texts[0].len, out, room, needed);
+}
+
+static uint32_t
+write_masked(const struct bytes *texts, char *out, size_t room, size_t *needed)
+{
+	return uriparse_mask_password(texts[0].at, texts[0].len, out, room, needed);
+}
+
+static uint32_t
 write_origin(const struct bytes *texts, char *out, size_t room, size_t *needed)
 {
 	return uriparse_origin(texts[0].at, texts[0].len, out, room, needed);
@@ -308,6 +320,20 @@ uri_escape(PG_FUNCTION_ARGS)
 	struct bytes text = in_utf8(argument(fcinfo, 0));
 
 	return written_of(fcinfo, write_escaped, &text);
+}
+
+PG_FUNCTION_INFO_V1(uri_without_default_port);
+Datum
+uri_without_default_port(PG_FUNCTION_ARGS)
+{
+	return written(fcinfo, write_without_default_port);
+}
+
+PG_FUNCTION_INFO_V1(uri_mask_password);
+Datum
+uri_mask_password(PG_FUNCTION_ARGS)
+{
+	return written(fcinfo, write_masked);
 }
 
 PG_FUNCTION_INFO_V1(uri_origin);
@@ -517,31 +543,33 @@ uri_form_decode(PG_FUNCTION_ARGS)
 	PG_RETURN_TEXT_P(result);
 }
 
-/* The pairs of a query that are left. */
-struct pairs {
-	char	   *query;
+/* The pairs of a query, or the segments of a path, that are left. */
+struct pieces {
+	char	   *component;
 	size_t		len;
 	size_t		at;
 };
 
-/* At the first call: a copy of the query of a reference, or NULL if there is none. */
-static struct pairs *
-all_pairs(FunctionCallInfo fcinfo)
+/* At the first call: a copy of the query or the path of a reference, or NULL if there is none. */
+static struct pieces *
+all_pieces(FunctionCallInfo fcinfo, bool of_path)
 {
 	struct bytes text = argument(fcinfo, 0);
 	struct uriparse_parts parts;
-	struct pairs *pairs = NULL;
+	struct pieces *pieces = NULL;
 
-	if (is_reference(text, &parts) && parts.query.present)
+	if (is_reference(text, &parts) && (of_path || parts.query.present))
 	{
-		pairs = palloc(sizeof *pairs);
-		pairs->at = 0;
-		pairs->len = parts.query.end - parts.query.begin;
-		pairs->query = palloc(pairs->len + 1);
-		memcpy(pairs->query, text.at + parts.query.begin, pairs->len);
+		struct uriparse_span span = of_path ? parts.path : parts.query;
+
+		pieces = palloc(sizeof *pieces);
+		pieces->at = 0;
+		pieces->len = span.end - span.begin;
+		pieces->component = palloc(pieces->len + 1);
+		memcpy(pieces->component, text.at + span.begin, pieces->len);
 	}
 	release(fcinfo, 0, text);
-	return pairs;
+	return pieces;
 }
 
 /* A row of two texts, which are NULL if they aren't there. */
@@ -560,7 +588,7 @@ Datum
 uri_pairs(PG_FUNCTION_ARGS)
 {
 	FuncCallContext *context;
-	struct pairs *pairs;
+	struct pieces *pairs;
 	struct uriparse_pair pair;
 	text	   *columns[2] = {NULL, NULL};
 
@@ -573,18 +601,48 @@ uri_pairs(PG_FUNCTION_ARGS)
 		if (get_call_result_type(fcinfo, NULL, &context->tuple_desc) != TYPEFUNC_COMPOSITE)
 			elog(ERROR, "uri_pairs returns rows");
 		context->tuple_desc = BlessTupleDesc(context->tuple_desc);
-		context->user_fctx = all_pairs(fcinfo);
+		context->user_fctx = all_pieces(fcinfo, false);
 		MemoryContextSwitchTo(before);
 	}
 	context = SRF_PERCALL_SETUP();
 	pairs = context->user_fctx;
-	if (!pairs || !uriparse_next_pair(pairs->query, pairs->len, pairs->at, &pair))
+	if (!pairs || !uriparse_next_pair(pairs->component, pairs->len, pairs->at, &pair))
 		SRF_RETURN_DONE(context);
 	pairs->at = pair.next;
-	columns[0] = decoded(pairs->query + pair.name.begin, pair.name.end - pair.name.begin);
+	columns[0] = decoded(pairs->component + pair.name.begin, pair.name.end - pair.name.begin);
 	if (pair.value.present)
-		columns[1] = decoded(pairs->query + pair.value.begin, pair.value.end - pair.value.begin);
+		columns[1] = decoded(pairs->component + pair.value.begin, pair.value.end - pair.value.begin);
 	SRF_RETURN_NEXT(context, row_of(context->tuple_desc, columns));
+}
+
+/* A row for each segment of the path. */
+PG_FUNCTION_INFO_V1(uri_segments);
+Datum
+uri_segments(PG_FUNCTION_ARGS)
+{
+	FuncCallContext *context;
+	struct pieces *path;
+	struct uriparse_span segment;
+	text	   *result;
+
+	if (SRF_IS_FIRSTCALL())
+	{
+		MemoryContext before;
+
+		context = SRF_FIRSTCALL_INIT();
+		before = MemoryContextSwitchTo(context->multi_call_memory_ctx);
+		context->user_fctx = all_pieces(fcinfo, true);
+		MemoryContextSwitchTo(before);
+	}
+	context = SRF_PERCALL_SETUP();
+	path = context->user_fctx;
+	if (!path || !uriparse_next_segment(path->component, path->len, path->at, &segment))
+		SRF_RETURN_DONE(context);
+	path->at = segment.end + 1;
+	result = decoded(path->component + segment.begin, segment.end - segment.begin);
+	if (!result)
+		SRF_RETURN_NEXT_NULL(context);
+	SRF_RETURN_NEXT(context, PointerGetDatum(result));
 }
 
 /* The query of a reference, or the empty one. Returns whether the text is a reference. */

@@ -199,7 +199,7 @@ def test_wrong_types() -> None:
     single: List[Callable[..., object]] = [
         uriparse.parse, uriparse.spans, uriparse.first_fault, uriparse.is_uri, uriparse.hash_of, uriparse.normalize,
         uriparse.origin, uriparse.pairs, uriparse.decode, uriparse.form_decode, uriparse.escape, uriparse.trim_link, uriparse.is_normalized,
-        uriparse.key, uriparse.normal_key, uriparse.page_key, uriparse.is_public,
+        uriparse.key, uriparse.normal_key, uriparse.page_key, uriparse.is_public, uriparse.segments, uriparse.without_default_port, uriparse.mask_password,
         uriparse.is_ambiguous, uriparse.port_or_default, uriparse.host_address, lambda data: uriparse.encode("query", data)]
     for call in single:
         for other, name in ((None, "None"), (5, "int"), ([97], "list"), (memoryview(b"abcd").cast("I"), "memoryview")):
@@ -237,6 +237,11 @@ def test_str() -> None:
     assert uriparse.pair_values("?a=1&\u0061=%C3%BC&a&b", "a") == ["1", "\u00fc", ""] == uriparse.URI("?a=1&%61=%C3%BC&a&b").pair_values("a")
     assert uriparse.pair_values(b"?5=%FF", 5) == [b"\xff"] and uriparse.pair_values("a", "a") == []
     assert type(raised(uriparse.pair_values, "?a=1&a=%FF", "a")) is UnicodeDecodeError
+    assert uriparse.segments("/a%2F\u00fc//") == ["a%2F\u00fc", "", ""] and uriparse.segments(b"a/%ff") == [b"a", b"%ff"]
+    assert uriparse.segments("") == [""] == uriparse.segments("/") and uriparse.URI("//h/a//?b/c").segments() == ["a", "", ""]
+    assert uriparse.without_default_port("HTTP://H:080/%7e") == "HTTP://H/%7e" and uriparse.without_default_port(b"//h:80") == b"//h:80"
+    assert str(uriparse.URI("https://h:443").without_default_port()) == "https://h" and uriparse.mask_password(b"//u:p@h") == b"//u:***@h"
+    assert uriparse.mask_password("ftp://u:secret@h/%7e") == "ftp://u:***@h/%7e" == str(uriparse.URI("ftp://u:secret@h/%7e").mask_password())
     assert uriparse.pairs("a=1&\u00fc=&c") == [("a", "1"), ("\u00fc", ""), ("c", None)] and uriparse.pairs("") == [("", None)]
     assert uriparse.first_fault("/a%4") == (0x52, 2) and uriparse.first_fault("/a") is None and uriparse.first_fault("a\u00fc") == (0x51, 1)
     found = uriparse.parse("http://u@h:80/a?q#")
@@ -415,6 +420,8 @@ def test_checks() -> None:
     for text, domain, within in (("http://WWW.Example.com./", "example.com", True), ("//evilexample.com", "example.com", False),
                                  ("//1.2.3.4", "4", False), ("//[::1]", "[::1]", True), ("/a", "h", False)):
         assert uriparse.host_is_within(text, domain) is within is uriparse.host_is_within(text.encode(), domain.encode())
+        assert uriparse.host_is_within_any(text, "a " + domain) is within is uriparse.URI(text).host_is_within_any(domain + " b")
+        assert uriparse.host_is_within_any(text.encode(), domain.encode()) is within and not uriparse.host_is_within_any(text, " ")
     assert uriparse.host_flags("//%31.2.3.4") == uriparse.HostFlag.HIDES_ADDRESS | uriparse.HostFlag.MAY_BE_NUMERIC
     assert uriparse.host_flags(b"//0x7f.1") is uriparse.HostFlag.MAY_BE_NUMERIC and not uriparse.host_flags("//example.com")
     assert uriparse.default_port("HTTPS") == 443 and uriparse.default_port(b"mailto") is None and uriparse.default_port("") is None
@@ -518,6 +525,9 @@ def test_domains() -> None:
         error = raised(uriparse.host_is_within, "//h", domain)
         assert isinstance(error, uriparse.URIError) and (error.argument, error.component, error.text) == ("domain", "host", domain), (domain, error)
         assert error.place == place and error.code & uriparse.IN_BASE, (domain, error.place)
+        if " " not in domain:
+            several = raised(uriparse.host_is_within_any, "//h", "h  a " + domain + " %")
+            assert isinstance(several, uriparse.URIError) and (several.argument, several.place, several.code) == ("domains", 5 + place, error.code), domain
         if "\ud800" not in domain:
             other = raised(uriparse.host_is_within, b"//h", domain.encode())
             assert isinstance(other, uriparse.URIError) and (other.code, other.place) == (error.code, place), (domain, other)

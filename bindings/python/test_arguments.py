@@ -87,7 +87,7 @@ CALLS += [getattr(_uriparse, name) for name in dir(_uriparse) if name[0] != "_" 
 URIS = [uriparse.URI(text) for text in ("http://u:p@h:80/a?a=1&b#c", "a", "s:a/../b")]
 CALLS += [getattr(uri, name) for uri in URIS for name in dir(uri) if callable(getattr(uri, name)) and (
     name[0] != "_" or name in ("__truediv__", "__eq__", "__lt__", "__ge__", "__hash__", "__str__", "__repr__", "__reduce__"))]
-NAMES = ("text", "uri", "base", "reference", "left", "right", "domain", "name", "names", "value", "query", "data", "component", "errors", "host", "port",
+NAMES = ("text", "uri", "base", "reference", "left", "right", "domain", "domains", "name", "names", "value", "query", "data", "component", "errors", "host", "port",
          "path", "texts", "references", "is_raising", "scheme", "segment", "other", "")
 
 

@@ -21,6 +21,10 @@ def pair_values(uri: Any, name: Any) -> str:
     return "".join("<%s>" % shown(value) for value in uriparse.pair_values(uri, name))
 
 
+def segments(uri: Any) -> str:
+    return "".join("<%s>" % shown(segment) for segment in uriparse.segments(uriparse.parse(uri).path))
+
+
 def host_address(text: Any) -> Optional[bytes]:
     found = uriparse.host_address(text)
     return None if found is None else found.packed
@@ -41,6 +45,8 @@ CALLS: Dict[str, Tuple[Callable[..., Any], Tuple[str, ...]]] = {
     "is_normalized": (uriparse.is_normalized, ("text",)), "is_public": (uriparse.is_public, ("text",)), "is_ambiguous": (uriparse.is_ambiguous, ("segment",)),
     "same_origin": (uriparse.same_origin, ("left", "right")), "trim_link": (uriparse.trim_link, ("text",)),
     "form_decode": (uriparse.form_decode, ("text",)), "pair_values": (pair_values, ("text", "name")),
+    "segments": (segments, ("text",)), "without_default_port": (uriparse.without_default_port, ("text",)),
+    "mask_password": (uriparse.mask_password, ("text",)), "host_is_within_any": (uriparse.host_is_within_any, ("text", "domains")),
     "escape": (uriparse.escape, ("text",)), "decode": (uriparse.decode, ("text",)),
     "encode": (lambda component, data: uriparse.encode(component if isinstance(component, str) else component.decode(), data), ("component", "data")),
     "pairs": (pairs, ("text",)), "pair": (uriparse.pair, ("text", "name")), "with_pair": (uriparse.with_pair, ("text", "name", "value")),

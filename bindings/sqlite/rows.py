@@ -148,9 +148,11 @@ SQL_CALLS = {"check": "uri_valid", "is_uri": "uri_is_uri", "port_number": "uri_p
              "compare": "uri_compare", "replace": "uri_replace", "decode": "uri_decode", "encode": "uri_encode", "hash": "uri_hash",
              "same_origin": "uri_same_origin", "is_normalized": "uri_is_normalized", "is_public": "uri_is_public", "is_ambiguous": "uri_is_ambiguous",
              "port_or_default": "uri_port_or_default", "host_address": "uri_host_address", "pair_values": "uri_param_values",
-             "form_decode": "uri_form_decode", "trim_link": "uri_trim_link", "key": "uri_key", "page_key": "uri_page_key"}
+             "form_decode": "uri_form_decode", "trim_link": "uri_trim_link", "key": "uri_key", "page_key": "uri_page_key",
+             "segments": "uri_segments", "without_default_port": "uri_without_default_port", "mask_password": "uri_mask_password",
+             "host_is_within_any": "uri_host_is_within_any"}
 NO_SQL_CALLS = {"port", "drop_pairs"}
-BOOLEAN_CALLS = {"check", "is_uri", "host_is_within", "is_within", "equal", "same_origin", "is_normalized", "is_public", "is_ambiguous"}
+BOOLEAN_CALLS = {"check", "is_uri", "host_is_within", "host_is_within_any", "is_within", "equal", "same_origin", "is_normalized", "is_public", "is_ambiguous"}
 # The calls whose first argument is no reference.
 CALLS_OF_DATA = {"decode", "form_decode", "is_ambiguous"}
 
@@ -170,7 +172,7 @@ def _meant(field: str) -> Optional[bytes]:
 
 
 def meanings() -> List[Meaning]:
-    """The rows of rows.tsv for which SQL has a function."""
+    """The rows of rows.tsv for which SQL has a function. Its segments are decoded."""
     found = []
     with open(os.path.join(TOP, "bindings/rows.tsv"), encoding="utf-8") as file:
         lines = [line.rstrip("\n").split("\t") for line in file if line.strip() and not line.startswith("#")]
@@ -181,7 +183,7 @@ def meanings() -> List[Meaning]:
             numbers = [None if number == "-" else int(number) for number in (error[3], error[4])]
             found.append(Meaning(call, values, None, (error[1], error[2], *numbers)))
         else:
-            found.append(Meaning(call, values, _meant(answer), None))
+            found.append(Meaning(call, values, unquote_to_bytes(answer) if call == "segments" else _meant(answer), None))
     assert {row.call for row in found} == {*SQL_CALLS, *NO_SQL_CALLS}
     found = [row for row in found if row.call in SQL_CALLS]
     assert len(found) > 400, len(found)

@@ -116,6 +116,8 @@ def meant(db: sqlite3.Connection, row: rows.Meaning) -> Any:
     if row.call == "pairs":
         return b"".join(b"<%s>" % (name if value is None else name + "=" + value).encode() for name, value in db.execute(
             "SELECT name, value FROM uri_pairs(?)", values))
+    if row.call == "segments":
+        return b"".join(b"<%s>" % segment.encode() for segment, in db.execute("SELECT segment FROM uri_segments(?)", values)) or None
     found = one(db, "%s(%s)" % (rows.SQL_CALLS[row.call], ", ".join("?" * len(values))), *values)
     if isinstance(found, int) and row.call in rows.BOOLEAN_CALLS:
         return (b"false", b"true")[found]
@@ -214,6 +216,15 @@ def test_changes(db: sqlite3.Connection) -> int:
             ("uri_form_decode('a+%2B%C3%A9')", "a +\u00e9"), ("uri_form_decode('+%FF')", b" \xff"), ("uri_form_decode('%')", None),
             ("uri_trim_link(' <URL:http://h/> ')", "http://h/"), ("uri_trim_link(x'20ff')", b"\xff"), ("uri_trim_link('')", ""),
             ("uri_param_values('?a=1&b&%61=%22%5C%0A&a&a=%FF&a=x%00', 'a')", '["1","\\"\\\\\\u000a","",null,null]'),
+            ("uri_host_is_within_any('//a.example.org', 'example.com example.org')", 1), ("uri_host_is_within_any('file:///a', '')", 0),
+            ("uri_host_is_within_any('//h', 'h a:1')", None), ("uri_host_is_within_any('a b', 'h')", None), ("uri_host_is_within_any('//h', NULL)", None),
+            ("uri_without_default_port('HTTP://H:080/%7e')", "HTTP://H/%7e"), ("uri_without_default_port('//h:80')", "//h:80"),
+            ("uri_without_default_port('a b')", None), ("uri_without_default_port(NULL)", None),
+            ("uri_mask_password('ftp://u:secret@h')", "ftp://u:***@h"), ("uri_mask_password(x'2f2f753a4068')", "//u:***@h"),
+            ("uri_mask_password('a b')", None), ("uri_mask_password(NULL)", None),
+            ("group_concat(segment, '|') FROM uri_segments('http://h/a%2Fb/%C3%BC//')", "a/b|\u00fc||"), ("count(*) FROM uri_segments", 0),
+            ("segment FROM uri_segments('/a/%FF') WHERE rowid = 1", b"\xff"), ("count(*) FROM uri_segments('a b')", 0), ("count(*) FROM uri_segments(NULL)", 0),
+            ("count(*) FROM uri_segments(x'')", 1), ("count(*) FROM uri_segments('')", 1), ("uri FROM uri_segments('/')", "/"),
             ("uri_param_values('?a', 'b')", "[]"), ("uri_param_values('a', 'a')", "[]"), ("uri_param_values('a b', 'a')", None),
             ("uri_param_values('?a', NULL)", None), ("group_concat(value) FROM json_each(uri_param_values('?a=1&a=2', 'a'))", "1,2")):
         assert one(db, expression) == expected, expression
@@ -343,6 +354,12 @@ def test_changed_pairs(db: sqlite3.Connection) -> int:
         other, domain = base + draw.choice(fuzz.BELOW), draw.choice(fuzz.HOSTS)
         assert one(db, "uri_is_within(?, ?)", other, base) == answer_of(uriparse.is_within, other, base), (other, base)
         assert one(db, "uri_host_is_within(?, ?)", text, domain) == answer_of(uriparse.host_is_within, text, domain), (text, domain)
+        domains = domain + b" " + draw.choice(fuzz.HOSTS)
+        assert one(db, "uri_host_is_within_any(?, ?)", text, domains) == answer_of(uriparse.host_is_within_any, text, domains), (text, domains)
+        assert one(db, "uri_without_default_port(?)", text) == uriparse.without_default_port(text).decode(), text
+        assert one(db, "uri_mask_password(?)", text) == uriparse.mask_password(text).decode(), text
+        found = db.execute("SELECT segment FROM uri_segments(?)", (text,)).fetchall()
+        assert found == [(as_value(uriparse.decode(segment)),) for segment in uriparse.segments(uriparse.parse(text).path)], text
         assert one(db, "uri_host_flags(?)", b"//" + domain) == answer_of(uriparse.host_flags, b"//" + domain), domain
         assert one(db, "uri_is_uri(?)", text) == uriparse.is_uri(text), text
         count += 1

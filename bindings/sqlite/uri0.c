@@ -1,4 +1,4 @@
-/* Functions, a table and a collation for the URIs of RFC 3986 in SQLite, by the library for C. README.md lists them. */
+/* Functions, tables and a collation for the URIs of RFC 3986 in SQLite, by the library for C. README.md lists them. */
 #include "sqlite3ext.h"
 SQLITE_EXTENSION_INIT1
 
@@ -198,6 +198,16 @@ static void host_is_within(sqlite3_context *context, int count, sqlite3_value **
     sqlite3_result_int(context, within);
 }
 
+/* uri_host_is_within_any(uri, domains) */
+static void host_is_within_any(sqlite3_context *context, int count, sqlite3_value **values) {
+  struct text text, domains;
+  bool within;
+  (void)count;
+  if (read_text(context, values[0], &text) && read_text(context, values[1], &domains) &&
+      uriparse_host_is_within_any(text.at, text.len, domains.at, domains.len, &within) == URIPARSE_OK)
+    sqlite3_result_int(context, within);
+}
+
 /* The sum of enum uriparse_host_flag. */
 static void host_flags(sqlite3_context *context, int count, sqlite3_value **values) {
   struct text text;
@@ -267,6 +277,14 @@ static uint32_t write_escaped(const struct text *texts, char *out, size_t room, 
   return uriparse_escape(texts[0].at, texts[0].len, out, room, needed);
 }
 
+static uint32_t write_without_default_port(const struct text *texts, char *out, size_t room, size_t *needed) {
+  return uriparse_without_default_port(texts[0].at, texts[0].len, out, room, needed);
+}
+
+static uint32_t write_masked(const struct text *texts, char *out, size_t room, size_t *needed) {
+  return uriparse_mask_password(texts[0].at, texts[0].len, out, room, needed);
+}
+
 static uint32_t write_origin(const struct text *texts, char *out, size_t room, size_t *needed) {
   return uriparse_origin(texts[0].at, texts[0].len, out, room, needed);
 }
@@ -320,6 +338,14 @@ static void relativize(sqlite3_context *context, int count, sqlite3_value **valu
 
 static void escape(sqlite3_context *context, int count, sqlite3_value **values) {
   result_written(context, count, values, write_escaped);
+}
+
+static void without_default_port(sqlite3_context *context, int count, sqlite3_value **values) {
+  result_written(context, count, values, write_without_default_port);
+}
+
+static void mask_password(sqlite3_context *context, int count, sqlite3_value **values) {
+  result_written(context, count, values, write_masked);
 }
 
 static void origin(sqlite3_context *context, int count, sqlite3_value **values) {
@@ -631,42 +657,60 @@ static void without_param(sqlite3_context *context, int count, sqlite3_value **v
   sqlite3_free(quoted);
 }
 
-/* The table uri_pairs(t): a row for each pair of the query of a reference. The third column is hidden, and is the argument. */
-enum { NAME, VALUE, URI };
-
-struct pairs {
-  sqlite3_vtab_cursor base;
-  sqlite3_value *uri; /* the argument, whose bytes the query is among; NULL if there are no rows */
-  const char *query;
-  size_t len;
-  struct uriparse_pair pair;
-  sqlite3_int64 row;
-  bool is_there; /* whether there is a pair in this row */
+/* The tables uri_pairs(t) and uri_segments(t): a row for each pair of the query, or each segment of the path, of a reference. The last column
+ * is hidden, and is the argument. */
+struct kind {
+  const char *columns;
+  int hidden;
+  bool is_path;
 };
 
-static int pairs_connect(sqlite3 *db, void *data, int count, const char *const *words, sqlite3_vtab **table, char **message) {
-  int code = sqlite3_declare_vtab(db, "CREATE TABLE pairs(name, value, uri HIDDEN)");
-  (void)data, (void)count, (void)words, (void)message;
+static const struct kind OF_PAIRS = {"CREATE TABLE pairs(name, value, uri HIDDEN)", 2, false};
+static const struct kind OF_SEGMENTS = {"CREATE TABLE segments(segment, uri HIDDEN)", 1, true};
+
+struct pieces_table {
+  sqlite3_vtab base;
+  const struct kind *kind;
+};
+
+struct pieces {
+  sqlite3_vtab_cursor base;
+  sqlite3_value *uri; /* the argument, whose bytes the component is among; NULL if there are no rows */
+  const char *component;
+  size_t len;
+  struct uriparse_pair pair; /* of a segment its name, and where the next one begins */
+  sqlite3_int64 row;
+  bool is_there; /* whether there is a piece in this row */
+};
+
+static const struct kind *kind_of(const struct pieces *pieces) { return ((const struct pieces_table *)pieces->base.pVtab)->kind; }
+
+static int pieces_connect(sqlite3 *db, void *data, int count, const char *const *words, sqlite3_vtab **table, char **message) {
+  const struct kind *kind = data;
+  struct pieces_table *made;
+  int code = sqlite3_declare_vtab(db, kind->columns);
+  (void)count, (void)words, (void)message;
   if (code != SQLITE_OK) return code;
   sqlite3_vtab_config(db, SQLITE_VTAB_INNOCUOUS);
-  *table = sqlite3_malloc(sizeof **table);
-  if (!*table) return SQLITE_NOMEM;
-  memset(*table, 0, sizeof **table);
+  made = sqlite3_malloc(sizeof *made);
+  if (!made) return SQLITE_NOMEM;
+  memset(made, 0, sizeof *made);
+  made->kind = kind;
+  *table = &made->base;
   return SQLITE_OK;
 }
 
-static int pairs_disconnect(sqlite3_vtab *table) {
+static int pieces_disconnect(sqlite3_vtab *table) {
   sqlite3_free(table);
   return SQLITE_OK;
 }
 
 /* The argument is `uri = ..`, which must be known. Without one there are no rows. */
-static int pairs_plan(sqlite3_vtab *table, sqlite3_index_info *info) {
-  (void)table;
+static int pieces_plan(sqlite3_vtab *table, sqlite3_index_info *info) {
   info->estimatedCost = 10;
   info->estimatedRows = 4;
   for (int i = 0; i < info->nConstraint; i++) {
-    if (info->aConstraint[i].iColumn != URI || info->aConstraint[i].op != SQLITE_INDEX_CONSTRAINT_EQ) continue;
+    if (info->aConstraint[i].iColumn != ((struct pieces_table *)table)->kind->hidden || info->aConstraint[i].op != SQLITE_INDEX_CONSTRAINT_EQ) continue;
     if (!info->aConstraint[i].usable) return SQLITE_CONSTRAINT;
     info->aConstraintUsage[i].argvIndex = 1;
     info->aConstraintUsage[i].omit = 1;
@@ -676,78 +720,87 @@ static int pairs_plan(sqlite3_vtab *table, sqlite3_index_info *info) {
   return SQLITE_OK;
 }
 
-static int pairs_open(sqlite3_vtab *table, sqlite3_vtab_cursor **cursor) {
-  struct pairs *pairs = sqlite3_malloc(sizeof *pairs);
+static int pieces_open(sqlite3_vtab *table, sqlite3_vtab_cursor **cursor) {
+  struct pieces *pieces = sqlite3_malloc(sizeof *pieces);
   (void)table;
-  if (!pairs) return SQLITE_NOMEM;
-  memset(pairs, 0, sizeof *pairs);
-  *cursor = &pairs->base;
+  if (!pieces) return SQLITE_NOMEM;
+  memset(pieces, 0, sizeof *pieces);
+  *cursor = &pieces->base;
   return SQLITE_OK;
 }
 
-static int pairs_close(sqlite3_vtab_cursor *cursor) {
-  sqlite3_value_free(((struct pairs *)cursor)->uri);
+static int pieces_close(sqlite3_vtab_cursor *cursor) {
+  sqlite3_value_free(((struct pieces *)cursor)->uri);
   sqlite3_free(cursor);
   return SQLITE_OK;
 }
 
-static void pairs_go(struct pairs *pairs, size_t at) {
-  pairs->is_there = pairs->query && uriparse_next_pair(pairs->query, pairs->len, at, &pairs->pair);
+static void pieces_go(struct pieces *pieces, size_t at) {
+  if (!pieces->component) {
+    pieces->is_there = false;
+  } else if (kind_of(pieces)->is_path) {
+    pieces->is_there = uriparse_next_segment(pieces->component, pieces->len, at, &pieces->pair.name);
+    pieces->pair.next = pieces->pair.name.end + 1;
+  } else {
+    pieces->is_there = uriparse_next_pair(pieces->component, pieces->len, at, &pieces->pair);
+  }
 }
 
-static int pairs_next(sqlite3_vtab_cursor *cursor) {
-  struct pairs *pairs = (struct pairs *)cursor;
-  pairs->row++;
-  pairs_go(pairs, pairs->pair.next);
+static int pieces_next(sqlite3_vtab_cursor *cursor) {
+  struct pieces *pieces = (struct pieces *)cursor;
+  pieces->row++;
+  pieces_go(pieces, pieces->pair.next);
   return SQLITE_OK;
 }
 
-static int pairs_filter(sqlite3_vtab_cursor *cursor, int plan, const char *name, int count, sqlite3_value **values) {
-  struct pairs *pairs = (struct pairs *)cursor;
+static int pieces_filter(sqlite3_vtab_cursor *cursor, int plan, const char *name, int count, sqlite3_value **values) {
+  struct pieces *pieces = (struct pieces *)cursor;
   struct uriparse_parts parts;
   const char *text;
   (void)plan, (void)name;
-  sqlite3_value_free(pairs->uri);
-  pairs->uri = NULL;
-  pairs->query = NULL;
-  pairs->row = 0;
+  sqlite3_value_free(pieces->uri);
+  pieces->uri = NULL;
+  pieces->component = NULL;
+  pieces->row = 0;
   if (count && sqlite3_value_type(values[0]) != SQLITE_NULL) {
-    pairs->uri = sqlite3_value_dup(values[0]);
-    if (!pairs->uri) return SQLITE_NOMEM;
-    text = sqlite3_value_type(pairs->uri) == SQLITE_BLOB ? sqlite3_value_blob(pairs->uri) : (const char *)sqlite3_value_text(pairs->uri);
-    if (!text && sqlite3_value_type(pairs->uri) != SQLITE_BLOB) return SQLITE_NOMEM;
-    if (text && uriparse_parse(text, (size_t)sqlite3_value_bytes(pairs->uri), &parts) == URIPARSE_OK && parts.query.present) {
-      pairs->query = text + parts.query.begin;
-      pairs->len = parts.query.end - parts.query.begin;
+    pieces->uri = sqlite3_value_dup(values[0]);
+    if (!pieces->uri) return SQLITE_NOMEM;
+    text = sqlite3_value_type(pieces->uri) == SQLITE_BLOB ? sqlite3_value_blob(pieces->uri) : (const char *)sqlite3_value_text(pieces->uri);
+    if (!text && sqlite3_value_type(pieces->uri) != SQLITE_BLOB) return SQLITE_NOMEM;
+    if (!text) text = "";
+    if (uriparse_parse(text, (size_t)sqlite3_value_bytes(pieces->uri), &parts) == URIPARSE_OK) {
+      struct uriparse_span span = kind_of(pieces)->is_path ? parts.path : parts.query;
+      if (span.present) pieces->component = text + span.begin;
+      pieces->len = span.end - span.begin;
     }
   }
-  pairs_go(pairs, 0);
+  pieces_go(pieces, 0);
   return SQLITE_OK;
 }
 
-static int pairs_eof(sqlite3_vtab_cursor *cursor) { return !((struct pairs *)cursor)->is_there; }
+static int pieces_eof(sqlite3_vtab_cursor *cursor) { return !((struct pieces *)cursor)->is_there; }
 
-/* A name or a value, decoded; NULL for a value that is absent. */
-static int pairs_column(sqlite3_vtab_cursor *cursor, sqlite3_context *context, int column) {
-  struct pairs *pairs = (struct pairs *)cursor;
-  struct uriparse_span span = column == NAME ? pairs->pair.name : pairs->pair.value;
-  if (column == URI)
-    sqlite3_result_value(context, pairs->uri);
+/* A segment, a name or a value, decoded; NULL for a value that is absent. */
+static int pieces_column(sqlite3_vtab_cursor *cursor, sqlite3_context *context, int column) {
+  struct pieces *pieces = (struct pieces *)cursor;
+  struct uriparse_span span = column == 0 ? pieces->pair.name : pieces->pair.value;
+  if (column == kind_of(pieces)->hidden)
+    sqlite3_result_value(context, pieces->uri);
   else if (span.present)
-    result_decoded(context, uriparse_decode, pairs->query + span.begin, span.end - span.begin);
+    result_decoded(context, uriparse_decode, pieces->component + span.begin, span.end - span.begin);
   return SQLITE_OK;
 }
 
-static int pairs_row(sqlite3_vtab_cursor *cursor, sqlite3_int64 *row) {
-  *row = ((struct pairs *)cursor)->row;
+static int pieces_row(sqlite3_vtab_cursor *cursor, sqlite3_int64 *row) {
+  *row = ((struct pieces *)cursor)->row;
   return SQLITE_OK;
 }
 
-/* Without xCreate the table needs no CREATE VIRTUAL TABLE. */
-static const sqlite3_module PAIRS = {
-  .xConnect = pairs_connect, .xBestIndex = pairs_plan, .xDisconnect = pairs_disconnect, .xOpen = pairs_open,
-  .xClose = pairs_close,     .xFilter = pairs_filter,  .xNext = pairs_next,             .xEof = pairs_eof,
-  .xColumn = pairs_column,   .xRowid = pairs_row,
+/* Without xCreate the tables need no CREATE VIRTUAL TABLE. */
+static const sqlite3_module PIECES = {
+  .xConnect = pieces_connect, .xBestIndex = pieces_plan, .xDisconnect = pieces_disconnect, .xOpen = pieces_open,
+  .xClose = pieces_close,     .xFilter = pieces_filter,  .xNext = pieces_next,             .xEof = pieces_eof,
+  .xColumn = pieces_column,   .xRowid = pieces_row,
 };
 
 /* The sign of the order of two byte strings. */
@@ -807,6 +860,8 @@ static const struct {
   {"uri_host_address", 1, host_address, NULL}, {"uri_param_values", 2, param_values, NULL},
   {"uri_form_decode", 1, form_decode, NULL}, {"uri_trim_link", 1, trim_link, NULL},
   {"uri_fault_text", 1, fault_text, NULL}, {"uri_key", 1, key, NULL},
+  {"uri_host_is_within_any", 2, host_is_within_any, NULL}, {"uri_without_default_port", 1, without_default_port, NULL},
+  {"uri_mask_password", 1, mask_password, NULL},
   {"uri_is_public", 1, is_public, NULL},   {"uri_normal_key", 1, normal_key, NULL}, {"uri_page_key", 1, page_key, NULL},
 };
 
@@ -823,7 +878,8 @@ int sqlite3_uri_init(sqlite3 *db, char **message, const sqlite3_api_routines *ap
   for (size_t i = 0; i < sizeof FUNCTIONS / sizeof *FUNCTIONS && code == SQLITE_OK; i++)
     code = sqlite3_create_function_v2(db, FUNCTIONS[i].name, FUNCTIONS[i].count, flags, (void *)FUNCTIONS[i].place,
                                       FUNCTIONS[i].call, NULL, NULL, NULL);
-  if (code == SQLITE_OK) code = sqlite3_create_module_v2(db, "uri_pairs", &PAIRS, NULL, NULL);
+  if (code == SQLITE_OK) code = sqlite3_create_module_v2(db, "uri_pairs", &PIECES, (void *)&OF_PAIRS, NULL);
+  if (code == SQLITE_OK) code = sqlite3_create_module_v2(db, "uri_segments", &PIECES, (void *)&OF_SEGMENTS, NULL);
   return code == SQLITE_OK ? sqlite3_create_collation_v2(db, "URI", SQLITE_UTF8, NULL, collate, NULL) : code;
 }
 

@@ -112,6 +112,16 @@ static void print_pairs(const char *query, size_t len) {
   putchar(']');
 }
 
+static void print_segments(const char *path, size_t len) {
+  struct uriparse_span segment;
+  printf(",\"segments\":[");
+  for (size_t at = 0; uriparse_next_segment(path, len, at, &segment); at = segment.end + 1) {
+    print_string(path + segment.begin, segment.end - segment.begin);
+    putchar(',');
+  }
+  printf("null]");
+}
+
 /* The bytes of the values of all pairs of a name. */
 static void print_values(const char *query, size_t len, bool has_query, const char *name, size_t name_len) {
   static uint8_t out[ROOM];
@@ -183,7 +193,7 @@ static void print_call(int which, const char *base, size_t base_len, const char 
   static struct written to;
   const uint32_t code = call(which, base, base_len, text, len, &to);
   const char *name = names[which];
-  const bool is_answer = is_one_of(name, "equal same_origin is_normalized is_public is_ambiguous is_within host_is_within ");
+  const bool is_answer = is_one_of(name, "equal same_origin is_normalized is_public is_ambiguous is_within host_is_within host_is_within_any ");
   if (strcmp(name, "parse") == 0) {
     print_parts(code, &to.parts);
   } else if (strcmp(name, "is_uri") == 0) {
@@ -209,9 +219,9 @@ static void print_call(int which, const char *base, size_t base_len, const char 
   }
 }
 
-/* The calls of which print_edits, print_encoded and print_pairs have others. */
+/* The calls of which print_edits, print_encoded, print_segments and print_pairs have others. */
 static bool has_own_row(const char *name) {
-  return !is_one_of(name, "encode next_pair find_pair find_next_pair set_pair append_pair drop_pairs ");
+  return !is_one_of(name, "encode next_segment next_pair find_pair find_next_pair set_pair append_pair drop_pairs ");
 }
 
 int main(void) {
@@ -226,6 +236,7 @@ int main(void) {
     for (int which = 0; which < CALLS; which++) {
       if (has_own_row(names[which])) print_call(which, base, base_len, text, len);
     }
+    print_segments(text, len);
     print_pairs(text, len);
     print_encoded(text, len);
     if (uriparse_parse(text, len, &parts) == URIPARSE_OK) {

@@ -76,6 +76,8 @@ function row(number, base, text) {
     origin: result(() => uris.origin(text) ?? NO_ORIGIN), relativize: result(() => uris.relativize(base, text)),
     change: result(() => uris.replace(text, { query: base, port: null })), compare: result(() => String(uris.compare(base, text))),
     is_within: result(() => uris.isWithin(text, base)), host_is_within: result(() => uris.hostIsWithin(text, base)),
+    host_is_within_any: result(() => uris.hostIsWithinAny(text, base)), without_default_port: result(() => uris.withoutDefaultPort(text)),
+    mask_password: result(() => uris.maskPassword(text)), segments: [...uris.segments(text), null],
     host_flags: result(() => flags(text)), default_port: uris.defaultPort(text) ?? 0, resolve: result(() => uris.resolve(base, text)),
     pairs: uris.pairs(text), encode: [null, ...["username", "password", "segment", "query", "fragment", "pair"].map((name) => [name, uris.encode(name, text)])],
     ...(fault ? {} : edits(base, text)),

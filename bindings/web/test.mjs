@@ -161,7 +161,7 @@ await test("sort keys", () => {
 await test("a value that is no text", () => {
   for (const value of [undefined, null, 1, true, ["a"], {}, Symbol("a")]) {
     for (const name of ["parse", "fault", "isURI", "hash", "normalize", "origin", "escape", "decode", "formDecode", "trimLink", "isNormalized", "isPublic",
-      "key", "isAmbiguous", "portOrDefault", "hostAddress", ...(value === null ? [] : ["pairs"])]) {
+      "key", "isAmbiguous", "portOrDefault", "hostAddress", "segments", "withoutDefaultPort", "maskPassword", ...(value === null ? [] : ["pairs"])]) {
       assert.throws(() => uris[name](value), TypeError, name);
     }
     assert.throws(() => uris.pair("s:", value), TypeError);
@@ -221,6 +221,9 @@ await test("the order, and URIs and hosts within others", () => {
   }
   assert.throws(() => uris.hostIsWithin("//h", "a b"), { argument: "domain", code: 0x131, place: 1, text: "a b" });
   assert.throws(() => uris.hostIsWithin("a b", "h"), { argument: "text", code: 0x51 });
+  assert.deepEqual(["example.org example.com", "example.org", "", " "].map((domains) => uris.hostIsWithinAny("//a.example.com", domains)), [true, false, false, false]);
+  assert.throws(() => uris.hostIsWithinAny("//h", "h  [::1] \u00e9 a:1"), { argument: "domains", code: 0x131, component: "host", place: 9 });
+  assert.throws(() => uris.hostIsWithinAny("a b", "h%"), { argument: "text", code: 0x51 });
   assert.deepEqual(uris.hostFlags("//%31.2.3.4"), { hidesAddress: true, mayBeNumeric: true, hasEscapes: false });
   assert.deepEqual(uris.hostFlags("//0x7f.1"), { hidesAddress: false, mayBeNumeric: true, hasEscapes: false });
   assert.deepEqual(uris.hostFlags("//example.com"), { hidesAddress: false, mayBeNumeric: false, hasEscapes: false });
@@ -260,6 +263,13 @@ await test("addresses, ports, segments, forms and links", () => {
   assert.throws(() => uris.formDecode("+\u00e9"), { code: 0x61, place: 1 });
   assert.equal(uris.trimLink(` <URL:\thttp://h/\u00e9\u{1f600}>\n`), "http://h/\u00e9\u{1f600}");
   assert.throws(() => uris.trimLink("\ud800"), TypeError);
+  assert.deepEqual(uris.segments("/a%2F\u00fc//.."), ["a%2F\u00fc", "", ".."]);
+  assert.deepEqual([uris.segments(""), uris.segments("/"), uris.segments("a/")], [[""], [""], ["a", ""]]);
+  assert.deepEqual(uris.segments("/a/\u{1f600}".repeat(10_000)).length, 20_000);
+  assert.throws(() => uris.segments("\ud800"), TypeError);
+  assert.equal(uris.withoutDefaultPort("HTTP://H:080/%7e"), "HTTP://H/%7e");
+  assert.equal(uris.maskPassword(new URL("ftp://u:secret@h/")), "ftp://u:***@h/");
+  assert.throws(() => uris.maskPassword("//u:%@h"), { code: 0x22, place: 4, argument: "text" });
   assert.deepEqual(uris.pairValues("?a=1&b&%61=%C3%BC&a", "a"), ["1", "\u00fc", ""]);
   assert.deepEqual(uris.pairValues("?%FF=1&a&%ff=2", uris.decode("%FF")), ["1", "2"]);
   assert.equal(uris.pairValues(`?${"a=%31&".repeat(10_000)}`, "a").join(""), "1".repeat(10_000));
@@ -350,6 +360,7 @@ const codes = header.slice(header.indexOf("enum uriparse_code {"), header.indexO
 const CODE_NAMES = new Map([...codes.matchAll(/^  URIPARSE_(\w+) = (0x\w+|\d+)/gm)].map(([, name, code]) => [Number(code), name]));
 const flagsOf = (text) => Object.values(uris.hostFlags(text)).reduce((sum, isSet, at) => sum + (isSet ? 1 << at : 0), 0);
 const listedValues = (text, name) => uris.pairValues(text, name).map((value) => `<${value}>`).join("");
+const listedSegments = (text) => uris.segments(uris.parse(text).path).map((segment) => `<${segment}>`).join("");
 const listedPairs = (text) => uris.pairs(uris.parse(text).query).map(([name, value]) => `<${name}${value === null ? "" : `=${value}`}>`).join("");
 // Bytes as text, or as they are if they are none.
 const spelled = (bytes) => bytes && meant([...bytes].map((byte) => `\\x${byte.toString(16).padStart(2, "0")}`).join(""));
@@ -366,6 +377,8 @@ const SHARED = {
   same_origin: [uris.sameOrigin, "left", "right"], is_normalized: [uris.isNormalized, "text"], is_public: [uris.isPublic, "text"], is_ambiguous: [uris.isAmbiguous, "segment"],
   port_or_default: [uris.portOrDefault, "text"], host_address: [(text) => spelled(uris.hostAddress(text)), "text"], hash: [uris.hash, "text"],
   pair_values: [listedValues, "text"], form_decode: [(text) => spelled(uris.formDecode(text)), "text"], trim_link: [uris.trimLink, "text"],
+  segments: [listedSegments, "text"], without_default_port: [uris.withoutDefaultPort, "text"], mask_password: [uris.maskPassword, "text"],
+  host_is_within_any: [uris.hostIsWithinAny, "text", "domains"],
   encode: [uris.encode], key: [(text) => uris.key(text), "text"], page_key: [(text) => uris.key(text, "page"), "text"],
   replace: [(text, name, value) => uris.replace(text, { [name]: value }), "text"],
 };

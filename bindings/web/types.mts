@@ -19,10 +19,11 @@ async function told(text: string): Promise<string> {
   const flags: HostFlags = uris.hostFlags(text);
   const origin: string | null = uris.origin(text);
   const order: -1 | 0 | 1 = uris.compare(text, text);
-  const checks: boolean[] = [uris.isWithin(text, text), uris.hostIsWithin(text, "h"), flags.hidesAddress, flags.mayBeNumeric, flags.hasEscapes];
+  const checks: boolean[] = [uris.isWithin(text, text), uris.hostIsWithin(text, "h"), uris.hostIsWithinAny(text, "h g"), flags.hidesAddress, flags.mayBeNumeric, flags.hasEscapes];
   const port: number | null = uris.defaultPort("http");
   const values_of_name: string[] = uris.pairValues(text, "a");
   const address: Uint8Array | null = uris.hostAddress(text);
+  const shown: string[] = [...uris.segments(parts.path), uris.withoutDefaultPort(text), uris.maskPassword(text)];
   const used: number | null = uris.portOrDefault(text);
   const is: boolean[] = [uris.sameOrigin(text, text), uris.isNormalized(uris.trimLink(text)), uris.isPublic(text), uris.isAmbiguous("a")];
   const keys: string = uris.key(text) + uris.key(text, "normal") + uris.key(text, "page");
@@ -33,7 +34,7 @@ async function told(text: string): Promise<string> {
   const equal: boolean = uris.equal(text, uris.normalize(text)) && uris.isURI(uris.resolve(text, "a"));
   return [host?.[0], kind, parts.port, parts.portNumber?.toFixed(), parts.authority, segments, names, bytes.length, values, keys, hash, equal, uris.escape(text), origin,
     uris.relativize(text, text), uris.replace(text, changes), order, checks, port?.toFixed(), value, edited,
-    values_of_name, address?.length, used?.toFixed(), is, spelled.length].join();
+    values_of_name, shown, address?.length, used?.toFixed(), is, spelled.length].join();
 }
 
 // @ts-expect-error an authority is changed by its components

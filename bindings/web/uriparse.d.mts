@@ -45,7 +45,7 @@ export class URIParseError extends Error {
   /** The text that is rejected. */
   readonly text: string;
   /** Which text of the call it is. Of `replace` also the component whose value it is, or the changes as a whole. */
-  readonly argument: "text" | "base" | "reference" | "left" | "right" | "uri" | "domain" | "segment" | "names" | "changes" | Exclude<Component, "authority">;
+  readonly argument: "text" | "base" | "reference" | "left" | "right" | "uri" | "domain" | "domains" | "segment" | "names" | "changes" | Exclude<Component, "authority">;
   /** Whether it is the base of `resolve`, `relativize` or `isWithin`. */
   readonly inBase: boolean;
 }
@@ -94,6 +94,8 @@ export interface URIs {
   isPublic(text: Input): boolean;
   isWithin(uri: Input, base: Input): boolean;
   hostIsWithin(text: Input, domain: string): boolean;
+  /** Spaces separate the domains: within an empty string is no host. */
+  hostIsWithinAny(text: Input, domains: string): boolean;
   hostFlags(text: Input): HostFlags;
   /** The segment has no "/". */
   isAmbiguous(segment: string): boolean;
@@ -115,6 +117,11 @@ export interface URIs {
   escape(text: Input): string;
   /** A lone surrogate is a `TypeError`. */
   trimLink(text: Input): string;
+  withoutDefaultPort(text: Input): string;
+  /** A secret elsewhere, as in the query, stays. */
+  maskPassword(text: Input): string;
+  /** As they stand in the path, one at least: `decode` reads each. A lone surrogate is a `TypeError`. */
+  segments(path: string): string[];
   /** A lone surrogate is a `TypeError`. */
   pairs(query: Input | null): Pair[];
   /** The decoded value of the first pair of this name: "" without an "=". One that isn't UTF-8 is a `TypeError`. */

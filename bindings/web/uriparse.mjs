@@ -546,6 +546,34 @@ class URIs {
     return this.#bytes[next] !== 0;
   }
 
+  /** Whether the host of a reference is within one of several domains, which spaces separate. Each of them is read. */
+  hostIsWithinAny(text, domains) {
+    text = textOf(text);
+    domains = textOf(domains);
+    const { spans, next } = this.#put(text, domains);
+    const code = this.#calls.uriparse_host_is_within_any(...spans, BigInt(next));
+    if (code & IN_BASE) {
+      throw new URIParseError(code, this.#placeInDomains(domains, code), domains, "domains");
+    }
+    if (code !== 0) {
+      throw this.#error(code, text);
+    }
+    return this.#bytes[next] !== 0;
+  }
+
+  // Where the first of several domains that is no host is wrong, among all of them.
+  #placeInDomains(domains, code) {
+    let begin = 0;
+    for (const domain of domains.split(" ")) {
+      const place = this.#placeIn("host", domain, code);
+      if (place !== null) {
+        return begin + place;
+      }
+      begin += domain.length + 1;
+    }
+    return null;
+  }
+
   /** What the host of a reference may be taken for. */
   hostFlags(text) {
     const flags = this.#word(this.#ofOne("uriparse_host_flags", text));
@@ -684,6 +712,29 @@ class URIs {
     }
     const at = code === MISSING_HOST ? -1 : set.indexOf(meaning(code)[0]);
     return at < 0 ? new URIParseError(code, null, text, "changes") : this.#errorIn(set[at], code, values[at], set[at]);
+  }
+
+  /** A reference without its port, if that is the default port of its scheme. All else stays, byte for byte. */
+  withoutDefaultPort(text) {
+    return this.#written("uriparse_without_default_port", [textOf(text)]);
+  }
+
+  /** A reference with "***" in place of its password, if it has one. All else stays, byte for byte. */
+  maskPassword(text) {
+    return this.#written("uriparse_mask_password", [textOf(text)]);
+  }
+
+  /** The segments of a path: the pieces between its "/", without one before a leading "/". */
+  segments(path) {
+    const { spans, next } = this.#put(wellFormed(path));
+    const span = this.#words.subarray(next / 4);
+    const found = [];
+    let at = 0n;
+    while (this.#calls.uriparse_next_segment(...spans, at, BigInt(next)) & 1) {
+      found.push(this.#decoder.decode(this.#bytes.subarray(this.#base + span[BEGIN], this.#base + span[END])));
+      at = BigInt(span[END] + 1);
+    }
+    return found;
   }
 
   /** The pairs of a query: the pieces between its "&", each a name and, after its first "=", a value or null. None for null. */

@@ -1,6 +1,8 @@
 /* The calls of one text and of two. Those of one shape go through one function, each with a row that says what is its own. */
 #include "module.h"
 
+#include <string.h>
+
 /* The place of an error in a text. */
 typedef size_t place_call(const uint8_t *bytes, size_t len);
 
@@ -141,6 +143,8 @@ CALL(text_to_text, key, "key", "text", exact_key, text_fault, OR_URI, 0, 0)
 CALL(text_to_text, normal_key, "normal_key", "text", normal_form_key, text_fault, OR_URI, 0, 0)
 CALL(text_to_text, page_key, "page_key", "text", page_form_key, text_fault, OR_URI, 0, 0)
 CALL(text_to_text, origin, "origin", "text", uriparse_origin, text_fault, OR_URI, URIPARSE_NO_ORIGIN, 0)
+CALL(text_to_text, without_default_port, "without_default_port", "text", uriparse_without_default_port, text_fault, OR_URI, 0, 0)
+CALL(text_to_text, mask_password, "mask_password", "text", uriparse_mask_password, text_fault, OR_URI, 0, 0)
 CALL(text_to_text, escape, "escape", "text", uriparse_escape, text_fault, OR_URI | STRICT, 0, 0)
 CALL(text_to_text, trim_link, "trim_link", "text", uriparse_trim_link, text_fault, PLAIN, 0, URIPARSE_PATH_BYTE)
 CALL(text_to_text, decode, "decode", "text", uriparse_decode, text_query_fault, PLAIN, 0, 0)
@@ -151,24 +155,47 @@ CALL(texts_to_bool, equal, {"equal", {"left", "right"}, -1}, uriparse_equal)
 CALL(texts_to_bool, same_origin, {"same_origin", {"left", "right"}, -1}, uriparse_same_origin)
 CALL(texts_to_bool, is_within, {"is_within", {"uri", "base"}, 1}, uriparse_is_within)
 
-/* The domain is no reference, and the place of its error is that of a host. */
-static PyObject *host_is_within(PyObject *module, PyObject *const *args, Py_ssize_t count, PyObject *kwnames) {
-  static const struct two_arguments of = {"host_is_within", {"text", "domain"}, 1};
+/* The place of the error of a domain, which is no reference, is that of a host. */
+static size_t domain_fault(const uint8_t *bytes, size_t len) { return text_component_fault(URIPARSE_HOST, bytes, len); }
+
+/* The place of the error of the first domain that is no host, of those that spaces separate. */
+static size_t domains_fault(const uint8_t *bytes, size_t len) {
+  size_t at = 0;
+  while (at <= len) {
+    const uint8_t *space = memchr(bytes + at, ' ', len - at);
+    size_t end = space ? (size_t)(space - bytes) : len;
+    bool answer;
+    if (uriparse_host_is_within("", 0, bytes + at, end - at, &answer)) return at + domain_fault(bytes + at, end - at);
+    at = end + 1;
+  }
+  return 0;
+}
+
+/* A text and a domain, or several, to a bool. */
+struct domain_to_bool {
+  struct two_arguments of;
+  test_two_call *call;
+  place_call *place;
+};
+
+static PyObject *domain_to_bool(PyObject *module, const struct domain_to_bool *row, PyObject *const *args, Py_ssize_t count, PyObject *kwnames) {
   const struct state *state = state_of(module);
   struct text texts[2];
   bool answer = false;
   PyObject *found;
-  if (!take_two(state, &of, args, count, kwnames, PLAIN, texts)) return NULL;
-  uint32_t code = uriparse_host_is_within(texts[0].bytes, texts[0].len, texts[1].bytes, texts[1].len, &answer);
+  if (!take_two(state, &row->of, args, count, kwnames, PLAIN, texts)) return NULL;
+  uint32_t code = row->call(texts[0].bytes, texts[0].len, texts[1].bytes, texts[1].len, &answer);
   if (code & URIPARSE_IN_BASE) {
-    found = reject(state, code, &texts[1], text_component_fault(URIPARSE_HOST, texts[1].bytes, texts[1].len), "domain");
+    found = reject(state, code, &texts[1], row->place(texts[1].bytes, texts[1].len), row->of.arguments[1]);
   } else {
-    found = code ? reject_of_two(state, &of, code, texts) : PyBool_FromLong(answer);
+    found = code ? reject_of_two(state, &row->of, code, texts) : PyBool_FromLong(answer);
   }
   text_release(&texts[0]);
   text_release(&texts[1]);
   return found;
 }
+CALL(domain_to_bool, host_is_within, {"host_is_within", {"text", "domain"}, 1}, uriparse_host_is_within, domain_fault)
+CALL(domain_to_bool, host_is_within_any, {"host_is_within_any", {"text", "domains"}, 1}, uriparse_host_is_within_any, domains_fault)
 
 static PyObject *compare(PyObject *module, PyObject *const *args, Py_ssize_t count, PyObject *kwnames) {
   static const struct two_arguments of = {"compare", {"left", "right"}, -1};
@@ -372,6 +399,13 @@ PyMethodDef call_methods[] = {
            "origin($module, /, text)\n--\n\n"
            "The origin of a URI: its scheme, its host and, unless that is the default one, its port. It is None for a URI without a\n"
            "host, or with an empty one. A name such as `%31.2.3.4` and the address `1.2.3.4` have one origin."),
+    METHOD("without_default_port", without_default_port,
+           "without_default_port($module, /, text)\n--\n\n"
+           "The reference without its port, if that is the default port of its scheme. All else stays, byte for byte."),
+    METHOD("mask_password", mask_password,
+           "mask_password($module, /, text)\n--\n\n"
+           "The reference as it may be shown, with `***` in place of its password, if it has one. All else stays, byte for byte,\n"
+           "also a secret in the query."),
     METHOD("escape", escape,
            "escape($module, /, text)\n--\n\n"
            "A reference, made of any text, with escapes for what may not stand where it does."),
@@ -413,5 +447,10 @@ PyMethodDef call_methods[] = {
            "host_is_within($module, /, text, domain)\n--\n\n"
            "Whether the host of a reference is the domain or a name within it, label by label. False without a host. A name with an\n"
            "escape in canonical spelling, an address, and a name that hides one, are within nothing but their equals."),
+    METHOD("host_is_within_any", host_is_within_any,
+           "host_is_within_any($module, /, text, domains)\n--\n\n"
+           "Whether the host of a reference is within one of several domains, which spaces separate, as `host_is_within` says of\n"
+           "one. Within an empty string is no host. Each domain is read: the first that is no host raises its error, with its place\n"
+           "among all of them."),
     /* methods.tsv: end */
     {NULL, NULL, 0, NULL}};

@@ -394,6 +394,25 @@ static PyObject *pairs(PyObject *module, PyObject *const *args, Py_ssize_t count
   return found;
 }
 
+/* The segments of a path, as they stand there. */
+static PyObject *segments(PyObject *module, PyObject *const *args, Py_ssize_t count, PyObject *kwnames) {
+  static const char *const names[] = {"path"};
+  const struct state *state = state_of(module);
+  PyObject *source;
+  struct text path;
+  struct uriparse_span segment;
+  if (!take_arguments("segments", names, 1, args, count, kwnames, &source)) return NULL;
+  if (!text_take_data(state, &path, source, PyUnicode_Check(source), URIPARSE_PATH_BYTE, "path")) return NULL;
+  PyObject *found = PyList_New(0);
+  for (size_t at = 0; found && uriparse_next_segment(path.bytes, path.len, at, &segment); at = segment.end + 1) {
+    PyObject *one = object_of(path.bytes + segment.begin, segment.end - segment.begin, path.is_str);
+    if (!one || PyList_Append(found, one)) Py_CLEAR(found);
+    Py_XDECREF(one);
+  }
+  text_release(&path);
+  return found;
+}
+
 /* Data that are written as a component. */
 struct encoded {
   uint32_t component;
@@ -449,6 +468,10 @@ PyMethodDef edit_methods[] = {
     METHOD("with_appended_pair", with_appended_pair,
            "with_appended_pair($module, /, uri, name, value)\n--\n\n"
            "The reference with a pair after all others of its query."),
+    METHOD("segments", segments,
+           "segments($module, /, path)\n--\n\n"
+           "The segments of a path, in order: the pieces between its `/`, without one before a leading `/`, as they stand in the\n"
+           "text. Each path has one at least, which is empty for an empty path and for `/`. `decode` reads each."),
     METHOD("pairs", pairs,
            "pairs($module, /, query)\n--\n\n"
            "The pairs of a query, in order: the pieces between its `&`, each a name and, after its first `=`, a value or None, as\n"

@@ -97,6 +97,26 @@ macro_rules! checks {
                     .map_err(|code| $crate::check::domain_error(code, domain.as_bytes()))
             }
 
+            /// Whether the host is one of several domains or a name within one, as [`host_is_within`](Self::host_is_within) says of each.
+            /// Spaces separate the domains; within an empty string is no host.
+            ///
+            /// # Errors
+            ///
+            /// Each domain is read. The first that is no host has its error, with its place among all of them.
+            ///
+            /// ```
+            /// use uriparse_rattle::UriRef;
+            ///
+            /// let reference = UriRef::parse("https://www.example.org/")?;
+            /// assert!(reference.host_is_within_any("example.com example.org")?);
+            /// assert_eq!(reference.host_is_within_any("org a:1").unwrap_err().position(), Some(5));
+            /// # Ok::<(), uriparse_rattle::Error>(())
+            /// ```
+            pub fn host_is_within_any(&self, domains: &str) -> Result<bool, $crate::Error> {
+                $crate::sys::host_is_within_any(self.as_str().as_bytes(), domains.as_bytes())
+                    .map_err(|code| $crate::check::domains_error(code, domains.as_bytes()))
+            }
+
             /// The IPv4 or IPv6 address that is the host. A name isn't looked up, and one that may be taken for an address has none.
             ///
             /// ```
@@ -246,6 +266,19 @@ fn segment_fault(segment: &[u8]) -> Option<usize> {
 pub(crate) fn domain_error(code: u32, domain: &[u8]) -> Error {
     let code = code & !sys::IN_BASE;
     Error::at(code, host_fault(code, domain))
+}
+
+/// The error of the first of several domains that isn't a host.
+pub(crate) fn domains_error(code: u32, domains: &[u8]) -> Error {
+    let code = code & !sys::IN_BASE;
+    let mut begin = 0;
+    for domain in domains.split(|&byte| byte == b' ') {
+        if sys::host_is_within(b"", domain).is_err() {
+            return Error::at(code, host_fault(code, domain).map(|at| begin + at));
+        }
+        begin += domain.len() + 1;
+    }
+    Error::at(code, None)
 }
 
 /// Where a host is wrong, whose error has this code: at the first byte, or `%` and what follows it, that alone is no host, or is rejected

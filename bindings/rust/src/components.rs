@@ -54,11 +54,17 @@ macro_rules! components {
             $crate::components::port_number(self.as_parts())
         }
 
-        /// The path, which may be empty. Its segments are `path().split('/')`, with an empty first one if it is absolute.
+        /// The path, which may be empty.
         #[must_use]
         pub fn path(&self) -> &$life str {
             let (text, parts) = self.as_parts();
             parts.path.of(text).unwrap_or("")
+        }
+
+        /// The segments of the path, as they stand there. A leading `/` has none before it.
+        #[must_use]
+        pub fn segments(&self) -> $crate::Segments<$life> {
+            $crate::pairs::Segments::new(self.path())
         }
 
         /// The query, without its `?`.

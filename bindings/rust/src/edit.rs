@@ -352,6 +352,18 @@ macro_rules! edits {
             pub fn normalize(&self) -> Self {
                 self.$view().normalize()
             }
+
+            /// The same without the default port of its scheme: see [`UriRef::without_default_port`].
+            #[must_use]
+            pub fn without_default_port(&self) -> Self {
+                self.$view().without_default_port()
+            }
+
+            /// The same with `***` in place of its password: see [`UriRef::mask_password`].
+            #[must_use]
+            pub fn mask_password(&self) -> Self {
+                self.$view().mask_password()
+            }
         }
     };
 }

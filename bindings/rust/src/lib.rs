@@ -38,6 +38,6 @@ pub use error::{BufferError, Component, Error, ErrorKind};
 pub use key::AsUriRef;
 #[cfg(feature = "alloc")]
 pub use owned::{UriBuf, UriRefBuf};
-pub use pairs::Pairs;
+pub use pairs::{Pairs, Segments};
 pub use reference::{HostKind, Uri, UriRef};
 pub use sort_key::KeyForm;

@@ -81,6 +81,37 @@ impl UriRef<'_> {
         let text = self.as_str().as_bytes();
         written_reference(Write::Normal(text)).expect("a reference has a normal form")
     }
+
+    /// The reference without its port, if that is the default port of its scheme (RFC 3986, section 6.2.3). All else keeps its bytes.
+    ///
+    /// ```
+    /// use uriparse_rattle::UriRef;
+    ///
+    /// assert_eq!(UriRef::parse("HTTP://H:080/%7e")?.without_default_port().as_str(), "HTTP://H/%7e");
+    /// assert_eq!(UriRef::parse("//h:80")?.without_default_port().as_str(), "//h:80");
+    /// # Ok::<(), uriparse_rattle::Error>(())
+    /// ```
+    #[must_use]
+    pub fn without_default_port(&self) -> UriRefBuf {
+        let text = self.as_str().as_bytes();
+        written_reference(Write::WithoutDefaultPort(text))
+            .expect("a reference needs no default port")
+    }
+
+    /// The reference as it may be shown (RFC 3986, section 7.5), with `***` in place of its password, if it has one. All else keeps its
+    /// bytes, also a secret in the query.
+    ///
+    /// ```
+    /// use uriparse_rattle::UriRef;
+    ///
+    /// assert_eq!(UriRef::parse("ftp://u:secret@h/%7e")?.mask_password().as_str(), "ftp://u:***@h/%7e");
+    /// # Ok::<(), uriparse_rattle::Error>(())
+    /// ```
+    #[must_use]
+    pub fn mask_password(&self) -> UriRefBuf {
+        let text = self.as_str().as_bytes();
+        written_reference(Write::Masked(text)).expect("a reference takes any password")
+    }
 }
 
 impl Uri<'_> {
@@ -94,6 +125,18 @@ impl Uri<'_> {
     #[must_use]
     pub fn normalize(&self) -> UriBuf {
         UriBuf(self.as_uri_ref().normalize())
+    }
+
+    /// The URI without the default port of its scheme: see [`UriRef::without_default_port`].
+    #[must_use]
+    pub fn without_default_port(&self) -> UriBuf {
+        UriBuf(self.as_uri_ref().without_default_port())
+    }
+
+    /// The URI with `***` in place of its password: see [`UriRef::mask_password`].
+    #[must_use]
+    pub fn mask_password(&self) -> UriBuf {
+        UriBuf(self.as_uri_ref().mask_password())
     }
 
     /// Resolves the reference against this base (RFC 3986, section 5.2.2, strict). The base's fragment is ignored.

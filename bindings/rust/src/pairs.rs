@@ -1,4 +1,4 @@
-//! The pairs of a query.
+//! The pairs of a query, and the segments of a path.
 
 use crate::sys;
 use core::iter::FusedIterator;
@@ -47,3 +47,41 @@ impl<'a> Iterator for Pairs<'a> {
 }
 
 impl FusedIterator for Pairs<'_> {}
+
+/// The segments of a path, in order.
+///
+/// The segments are the pieces between the `/`, without one before a leading `/`, as they stand in the path: [`decode`](crate::decode)
+/// reads each. Each path has a segment at least, which is empty for an empty path and for `/`.
+///
+/// ```
+/// use uriparse_rattle::Segments;
+///
+/// let segments: Vec<_> = Segments::new("/a%2Fb//..").collect();
+/// assert_eq!(segments, ["a%2Fb", "", ".."]);
+/// assert!(Segments::new("/").eq(Segments::new("")));
+/// ```
+#[derive(Clone, Debug)]
+pub struct Segments<'a> {
+    path: &'a str,
+    at: usize,
+}
+
+impl<'a> Segments<'a> {
+    /// The segments of a path. Any string is cut like that.
+    #[must_use]
+    pub fn new(path: &'a str) -> Self {
+        Self { path, at: 0 }
+    }
+}
+
+impl<'a> Iterator for Segments<'a> {
+    type Item = &'a str;
+
+    fn next(&mut self) -> Option<Self::Item> {
+        let segment = sys::next_segment(self.path.as_bytes(), self.at)?;
+        self.at = segment.next();
+        segment.of(self.path)
+    }
+}
+
+impl FusedIterator for Segments<'_> {}

@@ -30,6 +30,11 @@ impl Span {
     pub(crate) fn of(self, text: &str) -> Option<&str> {
         (self.present != 0).then(|| &text[self.begin..self.end])
     }
+
+    /// The place after the byte that follows it.
+    pub(crate) fn next(self) -> usize {
+        self.end + 1
+    }
 }
 
 /// `struct uriparse_parts`: where the components of a reference are.
@@ -130,6 +135,13 @@ extern "C" {
         domain_len: usize,
         within: *mut bool,
     ) -> u32;
+    fn uriparse_host_is_within_any(
+        text: *const u8,
+        len: usize,
+        domains: *const u8,
+        domains_len: usize,
+        within: *mut bool,
+    ) -> u32;
     fn uriparse_host_flags(text: *const u8, len: usize, flags: *mut u32) -> u32;
     fn uriparse_is_public(text: *const u8, len: usize, is_public: *mut bool) -> u32;
     fn uriparse_is_ambiguous(segment: *const u8, len: usize, ambiguous: *mut bool) -> u32;
@@ -193,6 +205,21 @@ extern "C" {
         room: usize,
         needed: *mut usize,
     ) -> u32;
+    fn uriparse_without_default_port(
+        text: *const u8,
+        len: usize,
+        out: *mut u8,
+        room: usize,
+        needed: *mut usize,
+    ) -> u32;
+    fn uriparse_mask_password(
+        text: *const u8,
+        len: usize,
+        out: *mut u8,
+        room: usize,
+        needed: *mut usize,
+    ) -> u32;
+    fn uriparse_next_segment(path: *const u8, len: usize, at: usize, segment: *mut Span) -> bool;
     fn uriparse_next_pair(query: *const u8, len: usize, at: usize, pair: *mut Pair) -> bool;
     fn uriparse_find_pair(
         query: *const u8,
@@ -364,6 +391,13 @@ pub(crate) fn next_pair(query: &[u8], at: usize) -> Option<Pair> {
     unsafe { uriparse_next_pair(query.as_ptr(), query.len(), at, &mut pair) }.then_some(pair)
 }
 
+/// The first segment that is left of a path from this place, if one is.
+pub(crate) fn next_segment(path: &[u8], at: usize) -> Option<Span> {
+    let mut segment = Span::default();
+    // SAFETY: the slice is a text, and `segment` is writable.
+    unsafe { uriparse_next_segment(path.as_ptr(), path.len(), at, &mut segment) }.then_some(segment)
+}
+
 /// The first pair of a query with this name, if there is one.
 #[cfg(feature = "alloc")]
 pub(crate) fn find_pair(query: &[u8], name: &[u8]) -> Option<Pair> {
@@ -429,6 +463,25 @@ pub(crate) fn is_within(text: &[u8], base: &[u8]) -> bool {
         )
     };
     code == OK && within
+}
+
+/// Whether the host of a reference is within one of the domains, or the code of an error.
+pub(crate) fn host_is_within_any(text: &[u8], domains: &[u8]) -> Result<bool, u32> {
+    let mut within = false;
+    // SAFETY: both slices are texts, and `within` is writable.
+    let code = unsafe {
+        uriparse_host_is_within_any(
+            text.as_ptr(),
+            text.len(),
+            domains.as_ptr(),
+            domains.len(),
+            &mut within,
+        )
+    };
+    match code {
+        OK => Ok(within),
+        code => Err(code),
+    }
 }
 
 /// Whether the host of a reference is within the domain, or the code of an error.
@@ -545,6 +598,12 @@ pub(crate) enum Write<'a> {
     Address(&'a [u8]),
     #[cfg(feature = "alloc")]
     Origin(&'a [u8]),
+    /// The text without its port, if that is the default one.
+    #[cfg(feature = "alloc")]
+    WithoutDefaultPort(&'a [u8]),
+    /// The text with stars for its password.
+    #[cfg(feature = "alloc")]
+    Masked(&'a [u8]),
     #[cfg(feature = "alloc")]
     Decoded(&'a [u8]),
     /// What a text of a form stands for.
@@ -626,6 +685,15 @@ impl Write<'_> {
                     uriparse_escape(text.as_ptr(), text.len(), out, room, needed)
                 }
                 #[cfg(feature = "alloc")]
+                Self::WithoutDefaultPort(text) => {
+                    let (at, len) = (text.as_ptr(), text.len());
+                    uriparse_without_default_port(at, len, out, room, needed)
+                }
+                #[cfg(feature = "alloc")]
+                Self::Masked(text) => {
+                    uriparse_mask_password(text.as_ptr(), text.len(), out, room, needed)
+                }
+                #[cfg(feature = "alloc")]
                 Self::Trimmed(text) => {
                     uriparse_trim_link(text.as_ptr(), text.len(), out, room, needed)
                 }
@@ -690,6 +758,8 @@ impl Write<'_> {
             Self::Address(_) => 16,
             Self::Normal(text) | Self::Origin(text) => text.len() + 2,
             Self::Decoded(text) | Self::FormDecoded(text) | Self::Trimmed(text) => text.len(),
+            Self::WithoutDefaultPort(text) => text.len(),
+            Self::Masked(text) => text.len() + 3,
             Self::Encoded(_, text) | Self::Escaped(text) => text.len() + 16,
             Self::Key(_, text) => text.len() + 24,
             Self::Target(base, text) | Self::Relative(base, text) => base.len() + text.len() + 2,

@@ -94,6 +94,14 @@ fn pairs_of(uri: UriRef<'_>) -> Bytes {
     shown(uri.query_pairs().map(pair).collect::<String>())
 }
 
+fn segments_of(uri: UriRef<'_>) -> Bytes {
+    shown(
+        uri.segments()
+            .map(|segment| format!("<{segment}>"))
+            .collect::<String>(),
+    )
+}
+
 fn values_of(uri: UriRef<'_>, name: &str) -> Bytes {
     let values = uri.pair_values(name);
     Some(values.iter().fold(Vec::new(), |all, value| {
@@ -196,6 +204,9 @@ fn answer_of_one(call: &str, text: &[u8]) -> Option<Result<Bytes, Error>> {
         "hash" => read(hash_of),
         "is_ambiguous" => is_ambiguous(plain()).map(shown),
         "pairs" => read(pairs_of),
+        "segments" => read(segments_of),
+        "without_default_port" => read(|uri| shown(uri.without_default_port())),
+        "mask_password" => read(|uri| shown(uri.mask_password())),
         "decode" => decode(plain()).map(Some),
         "form_decode" => form_decode(plain()).map(Some),
         "trim_link" => Ok(shown(trim_link(plain()))),
@@ -226,6 +237,9 @@ fn answer(call: &str, values: &[Bytes]) -> Option<Result<Bytes, Error>> {
         "without_pairs" => read().and_then(|uri| uri.without_pairs(second)).map(shown),
         "without_pair" => read().map(|uri| shown(uri.without_pair(second))),
         "host_is_within" => read().and_then(|uri| uri.host_is_within(second)).map(shown),
+        "host_is_within_any" => read()
+            .and_then(|uri| uri.host_is_within_any(second))
+            .map(shown),
         "is_within" => uris().map(|(uri, base)| shown(uri.is_within(&base))),
         "resolve" => Uri::try_from(text).and_then(target).map(shown),
         "relativize" => uris().map(|(base, uri)| shown(base.relativize(&uri))),

@@ -364,11 +364,10 @@ fn hostile_rows() -> Vec<Vec<String>> {
 fn allowed_target(page: &Uri<'_>, location: &str, directory: Option<&Uri<'_>>) -> Option<UriBuf> {
     let target = page.resolve(&UriRef::parse(location).ok()?).ok()?;
     let uri = target.as_uri();
-    let is_host_within = |domain: &&str| uri.host_is_within(domain) == Ok(true);
     let is_allowed = uri.scheme().eq_ignore_ascii_case("https")
         && uri.username().is_none()
         && uri.host_kind() == Some(HostKind::Name)
-        && ["example.com", "example.org"].iter().any(is_host_within)
+        && uri.host_is_within_any("example.com example.org") == Ok(true)
         && !(uri.hides_address() || uri.may_be_numeric() || uri.has_escapes())
         && matches!(uri.port_number(), None | Some(443))
         && directory.map_or(true, |directory| uri.is_within(directory));

@@ -64,6 +64,13 @@ extern "C" {
         domain_len: usize,
         within: *mut bool,
     ) -> u32;
+    fn uriparse_host_is_within_any(
+        text: *const u8,
+        len: usize,
+        domains: *const u8,
+        domains_len: usize,
+        within: *mut bool,
+    ) -> u32;
     fn uriparse_host_flags(text: *const u8, len: usize, flags: *mut u32) -> u32;
     fn uriparse_is_public(text: *const u8, len: usize, is_public: *mut bool) -> u32;
     fn uriparse_is_ambiguous(segment: *const u8, len: usize, ambiguous: *mut bool) -> u32;
@@ -111,6 +118,20 @@ extern "C" {
         needed: *mut usize,
     ) -> u32;
     fn uriparse_origin(
+        text: *const u8,
+        len: usize,
+        out: *mut u8,
+        room: usize,
+        needed: *mut usize,
+    ) -> u32;
+    fn uriparse_without_default_port(
+        text: *const u8,
+        len: usize,
+        out: *mut u8,
+        room: usize,
+        needed: *mut usize,
+    ) -> u32;
+    fn uriparse_mask_password(
         text: *const u8,
         len: usize,
         out: *mut u8,
@@ -301,6 +322,22 @@ fn check_reference(uri: UriRef<'_>, base: &str) {
     // SAFETY: each text is valid for its length.
     let within = asked(|out| unsafe { uriparse_host_is_within(a, text.len(), b, base.len(), out) });
     assert_eq!(within, uri.host_is_within(base).map_err(code), "{text}");
+    // SAFETY: as above.
+    let any =
+        asked(|out| unsafe { uriparse_host_is_within_any(a, text.len(), b, base.len(), out) });
+    assert_eq!(any, uri.host_is_within_any(base).map_err(code), "{text}");
+    assert_eq!(
+        of_one(uriparse_without_default_port, text),
+        Ok(bytes(uri.without_default_port())),
+        "{text}"
+    );
+    assert_eq!(
+        of_one(uriparse_mask_password, text),
+        Ok(bytes(uri.mask_password())),
+        "{text}"
+    );
+    let joined = uri.segments().collect::<Vec<_>>().join("/");
+    assert_eq!(joined, uri.path().strip_prefix('/').unwrap_or(uri.path()));
     // SAFETY: as above.
     let flags = asked(|out| unsafe { uriparse_host_flags(a, text.len(), out) });
     let own = [uri.hides_address(), uri.may_be_numeric(), uri.has_escapes()];

@@ -47,10 +47,14 @@ ghost use Rattle.uriparse_ffi.specs.Changes.{are_wishes, wanted_in};
 ghost use Rattle.uriparse_ffi.specs.Checks.{IsHostWithin, IsPublicHost, Tells, default_port_of, host_flags, order_number, port_or_minus_one};
 ghost use Rattle.uriparse_ffi.specs.Code as spec;
 ghost use Rattle.uriparse_ffi.specs.Components.{class_of, pair_number};
+ghost use Rattle.uriparse_ffi.specs.Domains.{IsWithinOne, domains as domains_in, first_error};
 ghost use Rattle.uriparse_ffi.specs.Hash.{hash_of};
+ghost use Rattle.uriparse_ffi.specs.Hidden.{masked_text, text_without_default_port};
 ghost use Rattle.uriparse_ffi.specs.Pairs.{IsFirstNamedAt, IsNextNamedAt, IsPairAt, left_from, value_given};
 ghost use Rattle.uriparse_ffi.specs.Places.{ArePlacesOf};
 ghost use Rattle.uriparse_ffi.specs.Put.{IsPut, IsRefused, IsRelativePut};
+ghost use Rattle.uriparse_ffi.specs.Segments.{segment_begin, segments_left};
+ghost use Rattle.uriparse_ffi.specs.Spans.{span};
 
 use uriparse_ffi::addresses::write_address;
 use uriparse_ffi::changes::{UriChanges, write_changed};
@@ -60,12 +64,16 @@ use uriparse_ffi::checks::{
 };
 use uriparse_ffi::code::{ACCEPTED, code_of, truth_of};
 use uriparse_ffi::coding::{write_decoded, write_encoded, write_escaped, write_trimmed};
+use uriparse_ffi::domains::write_within_any;
 use uriparse_ffi::forms::write_form_decoded;
+use uriparse_ffi::hidden::{write_masked, write_without_default_port};
 use uriparse_ffi::keys::write_key;
 use uriparse_ffi::origins::{write_origin, write_same_origin};
 use uriparse_ffi::pair_edits::{write_appended, write_with_pair, write_without};
 use uriparse_ffi::pairs::{UriPair, named_pair, next_named_pair, pair_at};
 use uriparse_ffi::places::{UriParts, places};
+use uriparse_ffi::segments::segment_at;
+use uriparse_ffi::span::UriSpan;
 use uriparse_ffi::texts::{equal_texts, hashed, write_normal, write_relative, write_target};
 use uriparse_reference::internal::find_pieces;
 use uriparse_reference::uri_reference::URIReference;
@@ -202,6 +210,20 @@ pub extern "C" fn uriparse_host_is_within(text: &[u8], domain: &[u8], within: &m
     ensures domain { (p : Parts) (e : HostError) → Spells text.now p → hosts.reading domain.now ≡ Err e → (result ≡ spec.in_base + spec.host_code e) × (within.new ≡ within.old) }
 {
     write_host_within(text, domain, within)
+}
+
+/// Writes whether the host of a reference is one of several domains or within one, which spaces separate.
+/// Does not allocate.
+#[unsafe(no_mangle)]
+pub extern "C" fn uriparse_host_is_within_any(text: &[u8], domains: &[u8], within: &mut u8) -> u32
+    // For a reference and domains that are hosts, 1 is written if its host is within one of these, else 0.
+    ensures checked { (p : Parts) → Spells text.now p → first_error (domains_in domains.now) ≡ None → (result ≡ spec.accepted) × Tells (IsWithinOne p (domains_in domains.now)) within.new }
+
+    // A faulty text is rejected, and nothing is written. If there is none, so is the first domain that is no host.
+    ensures refused { (e : URIReferenceError) → fault text.now ≡ Some e → (result ≡ spec.code_of e) × (within.new ≡ within.old) }
+    ensures domain { (p : Parts) (e : HostError) → Spells text.now p → first_error (domains_in domains.now) ≡ Some e → (result ≡ spec.in_base + spec.host_code e) × (within.new ≡ within.old) }
+{
+    write_within_any(text, domains, within)
 }
 
 /// Writes what the host of a reference may be taken for. Does not allocate.
@@ -409,6 +431,57 @@ pub extern "C" fn uriparse_change(
     ensures refused { (e : URIReferenceError) → fault text.now ≡ Some e → IsRefused (spec.code_of e) out.old out.new needed.new result }
 {
     write_changed(text, wanted, values, out, needed)
+}
+
+/// Writes the string of a reference without the port, if that is the default port of its scheme, to the
+/// buffer. Does not allocate.
+#[unsafe(no_mangle)]
+pub extern "C" fn uriparse_without_default_port(
+    text: &[u8],
+    out: &mut [u8],
+    needed: &mut usize,
+) -> u32
+    // The buffer holds the string, of which all other components keep their bytes, or it is too small.
+    ensures written { (p : Parts) → Spells text.now p → IsPut (text_without_default_port text.now p) out.old out.new needed.new result }
+
+    // A faulty text is rejected, and the buffer is kept.
+    ensures refused { (e : URIReferenceError) → fault text.now ≡ Some e → IsRefused (spec.code_of e) out.old out.new needed.new result }
+{
+    write_without_default_port(text, out, needed)
+}
+
+/// Writes the string of a reference with stars in place of its password, if it has one, to the buffer.
+/// Does not allocate.
+#[unsafe(no_mangle)]
+pub extern "C" fn uriparse_mask_password(text: &[u8], out: &mut [u8], needed: &mut usize) -> u32
+    // The buffer holds the string, of which all other components keep their bytes, or it is too small.
+    ensures written { (p : Parts) → Spells text.now p → IsPut (masked_text text.now p) out.old out.new needed.new result }
+
+    // A faulty text is rejected, and the buffer is kept.
+    ensures refused { (e : URIReferenceError) → fault text.now ≡ Some e → IsRefused (spec.code_of e) out.old out.new needed.new result }
+{
+    write_masked(text, out, needed)
+}
+
+/// Finds the first segment that is left of a path from a place, and says where it is. Does not allocate.
+#[unsafe(no_mangle)]
+pub extern "C" fn uriparse_next_segment(path: &[u8], at: usize, segment: &mut UriSpan) -> bool
+    // The first of the segments that are left from there is at that place, or after the path's leading slash.
+    ensures found { (s : List ℕ) (ss : List (List ℕ)) → segments_left path.now at ≡ s ∷ ss → IsTrue result × (segment.new ≡ span (segment_begin path.now at) (Some s)) }
+
+    // The others are those that are left from the place after the byte that follows it.
+    ensures others { (s : List ℕ) (ss : List (List ℕ)) → segments_left path.now at ≡ s ∷ ss → segments_left path.now (segment.new.end + 1) ≡ ss }
+
+    // If no segment is left, nothing is written.
+    ensures none { segments_left path.now at ≡ [] → (result ≡ false) × (segment.new ≡ segment.old) }
+{
+    match segment_at(path, at) {
+        Some(found) => {
+            *segment = found;
+            true
+        }
+        None => false,
+    }
 }
 
 /// Finds the pair that begins at a place of a query, and says where it is and where the next one

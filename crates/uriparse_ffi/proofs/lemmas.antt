@@ -1,7 +1,10 @@
 pub mod ChangeLemmas
 pub mod CheckLemmas
 pub mod CodeLemmas
+pub mod DomainLemmas
+pub mod HiddenLemmas
 pub mod PairLemmas
 pub mod ParseLemmas
 pub mod PlaceLemmas
+pub mod SegmentLemmas
 pub mod TextLemmas

@@ -7,5 +7,8 @@ pub mod Pairs
 pub mod Put
 pub mod Changes
 pub mod Checks
+pub mod Domains
+pub mod Hidden
 pub mod Places
+pub mod Segments
 pub mod Spans

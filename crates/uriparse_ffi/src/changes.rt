@@ -115,6 +115,18 @@ fn answer_change(written: Result<usize, ChangeError>, needed: &mut usize) -> u32
     }
 }
 
+/// Writes the string of a reference with these changes, or returns why there is none.
+pub(crate) fn write_with(
+    view: &ReferenceView<'_>,
+    changes: &Changes<'_>,
+    out: &mut [u8],
+    needed: &mut usize,
+) -> u32
+    ensures { IsChanged (changing changes.now view.now.text) out.old out.new needed.new result }
+{
+    answer_change(view.change_into(changes, out), needed)
+}
+
 /// Writes the string of a reference with components changed, or returns why there is none.
 fn write_changed_of(
     view: &ReferenceView<'_>,
@@ -127,7 +139,7 @@ fn write_changed_of(
     ensures { IsChanged (changing (wanted_in values.now wanted.now) view.now.text) out.old out.new needed.new result }
 {
     let changes = changes_in(values, wanted);
-    answer_change(view.change_into(&changes, out), needed)
+    write_with(view, &changes, out, needed)
 }
 
 /// Writes the string of the reference that a text spells with components changed, or returns the

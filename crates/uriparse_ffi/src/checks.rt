@@ -135,7 +135,7 @@ pub fn write_within(uri: &[u8], base: &[u8], within: &mut u8) -> u32
 }
 
 /// Whether the host of a reference is the domain or within it.
-fn is_host_within(view: &ReferenceView<'_>, domain: &Host<'_>) -> bool
+pub(crate) fn is_host_within(view: &ReferenceView<'_>, domain: &Host<'_>) -> bool
     ensures { IsTrue result ↔ IsHostWithin view.now.parts domain.now }
 {
     match view.host() {

@@ -27,10 +27,10 @@ except ImportError as _error:
 
 from ._errors import IN_BASE, NO_ROOM, Code, Component, URIError, error_text
 # methods.tsv: imports
-from ._uriparse import (compare, decode, default_port, equal, form_decode, hash_of, host_is_within, is_ambiguous,
-                        is_normalized, is_public, is_uri, is_within, key, normal_key, normalize, origin, page_key, pair,
-                        pair_values, pairs, parse, port_or_default, relativize, resolve, same_origin, trim_link,
-                        with_appended_pair, with_pair)
+from ._uriparse import (compare, decode, default_port, equal, form_decode, hash_of, host_is_within, host_is_within_any,
+                        is_ambiguous, is_normalized, is_public, is_uri, is_within, key, mask_password, normal_key,
+                        normalize, origin, page_key, pair, pair_values, pairs, parse, port_or_default, relativize,
+                        resolve, same_origin, segments, trim_link, with_appended_pair, with_pair, without_default_port)
 # methods.tsv: end
 
 __all__ = [
@@ -40,10 +40,10 @@ __all__ = [
     "resolve_many", "without_pair", "without_pairs"]
 # methods.tsv: names
 __all__ += ["compare", "decode", "default_port", "equal", "escape", "first_fault", "form_decode", "hash_of",
-            "host_address", "host_flags", "host_is_within", "is_ambiguous", "is_normalized", "is_public", "is_uri",
-            "is_within", "key", "normal_key", "normalize", "origin", "page_key", "pair", "pair_values", "pairs",
-            "parse", "port_or_default", "relativize", "resolve", "same_origin", "spans", "trim_link",
-            "with_appended_pair", "with_pair"]
+            "host_address", "host_flags", "host_is_within", "host_is_within_any", "is_ambiguous", "is_normalized",
+            "is_public", "is_uri", "is_within", "key", "mask_password", "normal_key", "normalize", "origin", "page_key",
+            "pair", "pair_values", "pairs", "parse", "port_or_default", "relativize", "resolve", "same_origin",
+            "segments", "spans", "trim_link", "with_appended_pair", "with_pair", "without_default_port"]
 # methods.tsv: end
 __version__ = "0.4.0"
 if _uriparse.version != __version__:
@@ -321,6 +321,10 @@ class URI(_uriparse.Compared):
         """The pairs of the query, not decoded; none if there is no query."""
         return pairs(self.query)
 
+    def segments(self) -> List[str]:
+        """The segments of the path, not decoded."""
+        return segments(self.path)
+
     def pair(self, name: str) -> Optional[str]:
         """The decoded value of the first pair with this name, or None."""
         return pair(self, name)
@@ -352,6 +356,10 @@ class URI(_uriparse.Compared):
     def host_is_within(self, domain: str) -> bool:
         """Whether the host is the domain or a name within it."""
         return host_is_within(self, domain)
+
+    def host_is_within_any(self, domains: str) -> bool:
+        """Whether the host is within one of the domains, which spaces separate."""
+        return host_is_within_any(self, domains)
 
     def host_flags(self) -> HostFlag:
         """What the host may be taken for."""
@@ -385,6 +393,14 @@ class URI(_uriparse.Compared):
     def normalize(self: _URI) -> _URI:
         """The normal form."""
         return type(self)(normalize(self))
+
+    def without_default_port(self: _URI) -> _URI:
+        """Without the port, if that is the default port of the scheme."""
+        return type(self)(without_default_port(self))
+
+    def mask_password(self: _URI) -> _URI:
+        """With `***` in place of the password, if it has one."""
+        return type(self)(mask_password(self))
 
     def key(self) -> str:
         """The sort key."""

@@ -27,7 +27,7 @@ pub left_none : (q : List ℕ) (at : ℕ) → length q < at → left_from q at �
 left_none q at h = ap (left q at) (lt-leb at (length q) h)
 
 -- after a first text and a delimiter is what follows them
-after_is : (mark : ℕ) (s t : List ℕ) (o : Option (List ℕ)) → s ++ following mark o ≡ t → left_from t (length s + 1) ≡ o
+pub after_is : (mark : ℕ) (s t : List ℕ) (o : Option (List ℕ)) → s ++ following mark o ≡ t → left_from t (length s + 1) ≡ o
 after_is mark s t None h =
     let whole : length s ≡ length t = ap length (sym (append-nil s) ∙ h) in
     left_none t (length s + 1) (omega arith)
@@ -38,7 +38,7 @@ after_is mark s t (Some u) h =
     ∙ ap (λ x. Some x) (drop-append-add s (mark ∷ u) 1)
 
 -- what is left from a place of what is left from another one
-left_twice : (q : List ℕ) (at n : ℕ) → at ≤ length q → left_from (drop at q) n ≡ left_from q (at + n)
+pub left_twice : (q : List ℕ) (at n : ℕ) → at ≤ length q → left_from (drop at q) n ≡ left_from q (at + n)
 left_twice q at n h = by_room (nat_le n (length (drop at q))) refl
   where
     len : length (drop at q) ≡ length q - at

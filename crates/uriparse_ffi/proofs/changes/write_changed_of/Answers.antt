@@ -1,14 +1,9 @@
-use Rattle.std.proofs.Common.{◌≡◌, length, subst, rules}
-use Rattle.uriparse_reference.specs.Change.{WritesChanged, changing}
-use Rattle.uriparse_ffi.specs.Changes.{wanted_in}
-use Rattle.uriparse_ffi.proofs.lemmas.ChangeLemmas.{change_answered}
+use Rattle.std.proofs.Common.{subst}
+use Rattle.uriparse_reference.specs.Change.{changing}
+use Rattle.uriparse_ffi.specs.Changes.{IsChanged}
 use Rattle.uriparse_ffi.proofs.changes.write_changed_of.Goals as goal
 
 pub returns : goal.returns
 returns c =
-    let room : length c.change_into.new.out ≡ length c.args.out.now = search rules in
-    change_answered (changing (wanted_in c.args.values.now c.args.wanted.now) c.args.view.now.text) c.change_into.result c.args.out.now c.change_into.new.out
-    c.answer_change.new.needed c.answer_change.result
-    (subst (λ w. WritesChanged (changing w c.args.view.now.text) c.change_into.result c.args.out.now c.change_into.new.out) c.changes_in-changes.ensures
-    c.change_into.ensures)
-    room c.answer_change.ensures.code c.answer_change.ensures.needed
+    subst (λ w. IsChanged (changing w c.args.view.now.text) c.args.out.now c.write_with.new.out c.write_with.new.needed c.write_with.result)
+    c.changes_in-changes.ensures c.write_with.ensures
