@@ -217,8 +217,8 @@ def target_of(base: Parts, reference: Parts) -> Parts:
 
 
 def is_allowed(page: bytes, location: bytes, below: bool) -> bool:
-    """The redirect check of the pages, for DOMAINS: `https`; no user information; a name within a domain, that may be taken for nothing else;
-    the port of `https`; and, where this is asked, below the page."""
+    """The redirect check of the pages, for DOMAINS: `https`; no user information; a name within a domain, that may be taken for nothing else,
+    without escapes and labels of IDNA; the port of `https`; and, where this is asked, below the page."""
     base, reference = parts_of(page), parts_of(location)
     assert base is not None
     if reference is None:
@@ -226,6 +226,7 @@ def is_allowed(page: bytes, location: bytes, below: bool) -> bool:
     target = target_of(base, reference)
     return ((target.scheme or b"").lower() == b"https" and target.user is None and target.host is not None
             and host_key(target.host)[0] == "name" and any(is_in_domain(target.host, domain) for domain in DOMAINS)
+            and not re.search(rb"%|(^|\.)xn--", target.host, re.IGNORECASE)
             and flags_of(target.host) == 0 and target.port in (None, 443) and (not below or is_below(target, base)))
 
 

@@ -40,8 +40,8 @@ static std::optional<std::string> allowed_target(std::string_view page, std::str
     const uriparse::reference uri(target);
     const bool is_within = uriparse::host_is_within_any(target, "example.com example.org");
     const std::string_view scheme_and_colon = std::string_view(target).substr(0, target.find(':') + 1);
-    const bool is_allowed = uriparse::equal(scheme_and_colon, "https:") && !uri.username() &&
-                            uri.host_kind() == URIPARSE_HOST_NAME && is_within && uriparse::host_flags(target) == 0 &&
+    const bool is_allowed = uriparse::equal(scheme_and_colon, "https:") && uriparse::disagreement(target) == 0 &&
+                            uri.host_kind() == URIPARSE_HOST_NAME && is_within &&
                             uri.port_number().value_or(443) == 443 && (!directory || uriparse::is_within(target, *directory));
     return is_allowed ? std::optional(target) : std::nullopt;
   } catch (const uriparse::error &) {

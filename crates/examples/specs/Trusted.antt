@@ -1,11 +1,12 @@
 -- Links that may be followed unasked.
 use Rattle.std.specs.List.{Any}
 use Rattle.std.specs.Option.{IsSomeAnd}
-use Rattle.std.specs.Prelude.{◌≡◌, false, is_some, List, Some}
+use Rattle.std.specs.Prelude.{◌≡◌, false, List, None, Some}
+use Rattle.uriparse.specs.Disagreement as readers
 use Rattle.uriparse.specs.HostValue.{Host}
 use Rattle.uriparse.specs.HostWithin.{IsWithin}
 use Rattle.uriparse.specs.Ports.{port_or_default}
-use Rattle.uriparse.specs.Reference.{Parts, host_of, username_of}
+use Rattle.uriparse.specs.Reference.{Parts, host_of}
 use Rattle.uriparse.specs.Uri.{IsNamed, https}
 use Rattle.uriparse.specs.Within as uris
 use Rattle.examples.specs.Hosts.{is_deceptive}
@@ -14,10 +15,10 @@ use Rattle.examples.specs.Hosts.{is_deceptive}
 abbrev pub IsTrustedHost : List Host → Host → Type 0
 IsTrustedHost domains h = Any (IsWithin h) domains × (is_deceptive h ≡ false)
 
--- The scheme is `https`, there is no user information, the host is trusted, and the port is that of `https`.
+-- The scheme is `https`, no reader may read another URI, the host is trusted, and the port is that of `https`.
 abbrev pub IsTrusted : List Host → Parts → Type 0
 IsTrusted domains u =
-    IsSomeAnd u.scheme (IsNamed https) × (is_some (username_of u) ≡ false) × IsSomeAnd (host_of u) (IsTrustedHost domains)
+    IsSomeAnd u.scheme (IsNamed https) × (readers.disagreement u ≡ None) × IsSomeAnd (host_of u) (IsTrustedHost domains)
     × (port_or_default u ≡ Some 443)
 
 -- The link is trusted, and below the page.

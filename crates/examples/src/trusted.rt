@@ -34,9 +34,9 @@ fn has_trusted_host(uri: &URI<'_>, domains: &[Host<'_>]) -> bool
     }
 }
 
-/// Whether a link leads over `https` to one of the domains or to a host within one, at the port of `https`
-/// and without user information. A name that a reader may take for another host is not trusted. Does not
-/// allocate.
+/// Whether a link leads over `https` to one of the domains or to a host within one, at the port of `https`.
+/// One in which another reader may read another URI is not trusted, nor one with user information. Does
+/// not allocate.
 ///
 /// ```
 /// let domains = [Host::try_from_str("example.com")?];
@@ -51,7 +51,7 @@ pub fn is_trusted(uri: &URI<'_>, domains: &[Host<'_>]) -> bool
     ensures { IsTrue result ↔ IsTrusted domains.now uri.now }
 {
     is_https(uri.scheme())
-        && !uri.has_username()
+        && uri.disagreement().is_none()
         && has_trusted_host(uri, domains)
         && uri.port_or_default() == Some(443)
 }
