@@ -145,6 +145,10 @@ audited t p bytes a b r spelled is written =
     of_reference t p (λ q. Prints (reason_word (disagreement q))) a b r spelled
     (answered (Prints (reason_word (disagreement p))) (line bytes) a b r (ap (λ x. Printed (line x)) is) written)
 
+pub kept_view : {A E : Type 0} (is : Bool) (given kept : A) (e : E) → ◌≡◌ {A = Result A E} (Ok kept) (if is then Ok given else Err e) → kept ≡ given
+kept_view true given kept e h = cc
+kept_view false given kept e h = absurd (cc)
+
 pub compared : (t : List ℕ) (p q : Parts) (a b : Known) (r : Done)
     → Spells t q → Writes (line (equal_or_different (bytes_eq (key p) (key q)))) a b r → Does (ComparesWith p t) a b r
 compared t p q a b r spelled written =

@@ -51,16 +51,16 @@ pub fn audit<O: Write>(text: &[u8], out: &mut O) -> Result<(), Failure>
     ensures { spec.Does (spec.Audits text.now) (O.contents out.old) (O.contents out.new) result }
 {
     let reference = ReferenceView::try_from_bytes(text)?;
-    print_bytes(word_of(reference).as_bytes(), out)
+    print_bytes(word(reason_of(reference)).as_bytes(), out)
 }
 
-/// The word for the first reason why readers may disagree on the reference.
-fn word_of(reference: ReferenceView<'_>) -> &'static str
-    ensures { result.now ≡ spec.reason_word (disagreement reference.entry.parts) }
+/// The first reason why readers may disagree on the reference.
+fn reason_of(reference: ReferenceView<'_>) -> Option<Disagreement>
+    ensures { result ≡ disagreement reference.entry.parts }
 {
     match URIView::try_from(reference) {
-        Ok(uri) => word(uri.disagreement()),
-        Err(_) => word(Some(Disagreement::Scheme)),
+        Ok(uri) => uri.disagreement(),
+        Err(_) => Some(Disagreement::Scheme),
     }
 }
 
