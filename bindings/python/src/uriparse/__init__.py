@@ -592,9 +592,12 @@ def without_pairs_many(uris: Iterable[Union[Text, URI]], *names: Any, errors: st
     is rejected; with errors="raise" the first of these raises its URIError. Rejected names always raise their own."""
     if not names:
         raise TypeError("without_pairs_many() lacks the name of a pair")
-    is_str = isinstance(names[0], str)
-    without_pairs("" if is_str else b"", *names)
-    return _uriparse.without_pairs_many("&".join(names) if is_str else b"&".join(names), uris, _is_raising(errors))
+    if isinstance(names[0], str):
+        without_pairs("", *names)
+    else:
+        without_pairs(b"", *names)
+    written: Union[str, bytes] = "&".join(names) if isinstance(names[0], str) else b"&".join(names)
+    return _uriparse.without_pairs_many(written, uris, _is_raising(errors))
 
 
 @overload
