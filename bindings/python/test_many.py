@@ -45,12 +45,19 @@ def compare(texts: List[bytes], base: bytes) -> None:
         assert (found and dataclasses.asdict(found)) == (wanted and dataclasses.asdict(wanted)), text
     for component in uriparse.COMPONENTS:
         assert uriparse.get_many(component, texts) == [part(component, text) for text in texts], component
+    assert uriparse.get_many("host_kind", texts) == [part("host_kind", text) for text in texts]
+    assert uriparse.pair_many(texts, b"a") == [one(uriparse.pair, text, b"a") for text in texts]
+    assert uriparse.without_pairs_many(texts, b"a", b"b*") == [one(uriparse.without_pairs, text, b"a", b"b*") for text in texts]
+    assert uriparse.escape_many(texts) == [uriparse.escape(text) for text in texts]
     strings = [text.decode("latin-1") for text in texts]
     assert uriparse.normalize_many(strings) == [one(uriparse.normalize, text) for text in strings]
     assert uriparse.resolve_many(base.decode(), strings) == [one(uriparse.resolve, base.decode(), text) for text in strings]
     assert uriparse.relativize_many(base.decode(), strings) == [one(uriparse.relativize, base.decode(), text) for text in strings]
     assert uriparse.is_within_many(strings, base.decode()) == [one(uriparse.is_within, text, base.decode()) for text in strings]
     assert uriparse.host_is_within_many(strings, "h") == [one(uriparse.host_is_within, text, "h") for text in strings]
+    assert uriparse.get_many("host_kind", strings) == [part("host_kind", text) for text in texts]
+    assert uriparse.without_pairs_many(strings, "a", "b*") == [one(uriparse.without_pairs, text, "a", "b*") for text in strings]
+    assert uriparse.escape_many(strings) == [uriparse.escape(text) for text in strings]
     assert uriparse.get_many("path", strings) == [part("path", text) for text in strings]
 
 
@@ -94,7 +101,8 @@ def test_errors() -> None:
     assert uriparse.is_within_many(["s://h/a/b", "s://h/b", "%"], "s://h/a/") == [True, False, None]
     assert uriparse.host_is_within_many(["//a.h", "//ah", "//"], "h") == [True, False, False]
     assert str(raised(uriparse.get_many, "hosts", [])) == (
-        "no component 'hosts': it is one of scheme, authority, username, password, host, port, path, query, fragment")
+        "no component 'hosts': it is one of scheme, authority, username, password, host, port, path, query, fragment, host_kind")
+    test_pairs()
     for call in (uriparse.normalize_many, uriparse.parse_many):
         assert str(raised(call, texts, errors="ignore")) == "no errors 'ignore': it is one of none, raise"
         for other in (5, None, [97], memoryview(b"abcd").cast("I")):
@@ -102,6 +110,25 @@ def test_errors() -> None:
             assert type(error) is TypeError and str(error).startswith("str or bytes expected, not "), other
         assert str(raised(call, [b"a", "a"])) == "str and bytes can't be mixed"
     assert uriparse.normalize_many([bytearray(b"%7e"), memoryview(b"--%7e")[2:]]) == [b"~", b"~"]
+
+
+def test_pairs() -> None:
+    """Values of pairs, references without pairs, and their errors."""
+    assert uriparse.pair_many(["?a=%26&b", "?a", "?b=1", "a", "%", "?5=x&%61=1"], "a") == ["&", "", None, None, None, "1"]
+    assert uriparse.pair_many([b"?5=%FF"], b"5") == [b"\xff"] and uriparse.pair_many(["?5=x"], 5) == ["x"]
+    assert uriparse.pair_many(["?a", "b"], "a", errors="raise") == ["", None]
+    assert type(raised(uriparse.pair_many, ["?a=%FF"], "a")) is UnicodeDecodeError
+    texts = ["http://h/?utm_id=1&q=%2f#f", "?gclid", "a#f", "?", "%"]
+    assert uriparse.without_pairs_many(texts, "utm_*", "gclid") == ["http://h/?q=%2f#f", "", "a#f", "?", None]
+    for error in (raised(uriparse.pair_many, ["a", "b c"], "a", errors="raise"), raised(uriparse.without_pairs_many, ["a", "b c"], "a", errors="raise")):
+        assert isinstance(error, uriparse.URIError) and (error.code, error.place, error.text, error.argument) == (0x51, 1, "b c", "text"), error
+    error = raised(uriparse.without_pairs_many, [], "a", "b#")
+    assert isinstance(error, uriparse.URIError) and (error.code, error.argument) == (uriparse.Code.BAD_NAMES, "names"), error
+    error = raised(uriparse.pair_many, [], "\ud800")
+    assert isinstance(error, uriparse.URIError) and error.argument == "name", error
+    assert type(raised(uriparse.without_pairs_many, ["a"])) is TypeError and type(raised(uriparse.pair_many, ["a"], b"a")) is TypeError
+    assert uriparse.escape_many(["a b", "\u00fc%"]) == ["a%20b", "%C3%BC%25"] and type(raised(uriparse.escape_many, ["\ud800"])) is UnicodeEncodeError
+    assert uriparse.get_many("host_kind", ["//h", "//1.2.3.4", "//[::1]", "//[v1.a]", "a", "%"]) == ["name", "ipv4", "ipv6", "ipvfuture", None, None]
 
 
 def test_threads(texts: List[bytes]) -> None:

@@ -54,7 +54,8 @@ CALLS = [
     lambda: uriparse.with_appended_pair(URI, "a", 7), lambda: uriparse.without_pairs(LONG, "a", "x*"), lambda: uriparse.without_pairs(URI),
     lambda: uriparse.without_pair(URI, "x"), lambda: uriparse.pairs("a=1&b&\u00e9=\u00e9"), lambda: uriparse.pairs(None), lambda: URI / "a b",
     lambda: uriparse.normalize_many(MANY), lambda: uriparse.resolve_many("s:a/" + "b" * 2000, MANY), lambda: uriparse.resolve_many(bytearray(b"s:"), [b"a"]),
-    lambda: uriparse.relativize_many("s:a/", MANY), lambda: uriparse.is_within_many(MANY, "s:"),
+    lambda: uriparse.escape_many(MANY), lambda: uriparse.pair_many(MANY, "a"), lambda: uriparse.without_pairs_many(MANY, "a", "b*"),
+    lambda: uriparse.get_many("host_kind", MANY), lambda: uriparse.relativize_many("s:a/", MANY), lambda: uriparse.is_within_many(MANY, "s:"),
     lambda: uriparse.host_is_within_many(MANY, "h"), lambda: uriparse.host_is_within_many([b"//h"], bytearray(b"h")),
     lambda: list(map(bool, uriparse.parse_many(MANY))), lambda: uriparse.get_many("host", iter(MANY)),
     lambda: uriparse.normalize_many([bytearray(b"%7e"), memoryview(b"--%7e")[2:]])]
@@ -73,7 +74,8 @@ REJECTED = [
     lambda: uriparse.parse_many(["a", b"a"]), lambda: uriparse.get_many("host", ["a", None]), lambda: uriparse.normalize_many("a"),
     lambda: uriparse.resolve("s:", base="s:"), lambda: uriparse.normalize(other="a"), lambda: replace(READ, host="a/b"),
     lambda: uriparse.resolve_many("s:", ["a", "%"], "raise"), lambda: uriparse.is_within_many(["s:", "%"], "s:", "raise"),
-    lambda: uriparse.host_is_within_many(["a"], SURROGATE)]
+    lambda: uriparse.host_is_within_many(["a"], SURROGATE), lambda: uriparse.pair_many(["?a=%ff"], "a"), lambda: uriparse.escape_many([SURROGATE]),
+    lambda: uriparse.without_pairs_many(["a", "%"], "a", errors="raise")]
 
 
 def is_frameless(error):

@@ -13,6 +13,7 @@ struct batch {
   PyObject *iterator;
   PyObject *found; /* the list of answers */
   const char *argument;
+  int taken; /* as what each text is taken */
   bool is_raising;
   bool has_kind; /* whether it is known if the texts are str */
   bool is_str;
@@ -53,6 +54,7 @@ static struct batch *batch_of(const struct state *state, PyObject *texts, PyObje
   if (!batch) return is_raising < 0 ? NULL : (struct batch *)PyErr_NoMemory();
   batch->state = state;
   batch->argument = argument;
+  batch->taken = OR_URI;
   batch->is_raising = is_raising;
   batch->has_kind = batch->is_str = false;
   batch->count = batch->len = 0;
@@ -75,7 +77,7 @@ static bool hold_still(struct text *text) {
 /* Takes a text, which the batch owns from now on, also if this fails. */
 static bool batch_add(struct batch *batch, PyObject *source) {
   struct text *text = &batch->texts[batch->count];
-  if (!text_take(batch->state, text, source, OR_URI)) {
+  if (!text_take(batch->state, text, source, batch->taken)) {
     Py_DECREF(source);
     return false;
   }
@@ -103,9 +105,9 @@ static bool batch_fill(struct batch *batch) {
   return !PyErr_Occurred() && !PyErr_CheckSignals();
 }
 
-/* Adds an answer to the list: the object, or None for a rejected text, whose error may be raised. */
+/* Adds an answer to the list: the object, or None for a text without one, and for a rejected text, whose error may be raised. */
 static bool batch_answer(struct batch *batch, size_t at, PyObject *answer) {
-  if (batch->codes[at] && batch->is_raising) {
+  if (batch->codes[at] && batch->codes[at] != URIPARSE_NO_PAIRS && batch->is_raising) {
     reject_fault(batch->state, batch->codes[at], &batch->texts[at], batch->argument);
     return false;
   }
@@ -201,6 +203,16 @@ static PyObject *normalize_many(PyObject *module, PyObject *const *args, Py_ssiz
   return batch ? write_all(batch, uriparse_normalize, NULL, NULL) : NULL;
 }
 
+static PyObject *escape_many(PyObject *module, PyObject *const *args, Py_ssize_t count, PyObject *kwnames) {
+  static const char *const names[] = {"texts"};
+  PyObject *source;
+  if (!take_arguments("escape_many", names, 1, args, count, kwnames, &source)) return NULL;
+  struct batch *batch = batch_of(state_of(module), source, Py_False, "text");
+  if (!batch) return NULL;
+  batch->taken = OR_URI | STRICT;
+  return write_all(batch, uriparse_escape, NULL, NULL);
+}
+
 /* The keys of the form with this number: 0 of the reference as it is, 1 of the normal form, 2 of the page. */
 static PyObject *key_many(PyObject *module, PyObject *const *args, Py_ssize_t count, PyObject *kwnames) {
   static const char *const names[] = {"form", "texts", "is_raising"};
@@ -233,6 +245,40 @@ static PyObject *test_all(struct batch *batch, test_two_call *call, const struct
     }
   }
   return batch_end(batch, done);
+}
+
+/* The decoded value of the first pair with a name, or the code NO_PAIRS. */
+static uint32_t write_value(const void *name, size_t name_len, const void *text, size_t len, void *out, size_t room, size_t *needed) {
+  struct uriparse_parts parts;
+  struct uriparse_pair pair;
+  uint32_t code = uriparse_parse(text, len, &parts);
+  *needed = 0;
+  if (code) return code;
+  const uint8_t *query = (const uint8_t *)text + parts.query.begin;
+  if (!parts.query.present || !uriparse_find_pair(query, parts.query.end - parts.query.begin, name, name_len, &pair)) return URIPARSE_NO_PAIRS;
+  return uriparse_decode(query + pair.value.begin, pair.value.end - pair.value.begin, out, room, needed);
+}
+
+/* A reference without the pairs of some names. The query that is left is held behind the room for the reference, which gets no longer. */
+static uint32_t write_left(const void *names, size_t names_len, const void *text, size_t len, void *out, size_t room, size_t *needed) {
+  struct uriparse_parts parts;
+  struct uriparse_changes changes;
+  size_t left_len;
+  uint32_t code = uriparse_parse(text, len, &parts);
+  *needed = code ? 0 : 2 * len;
+  if (code) return code;
+  if (room < 2 * len) return URIPARSE_NO_ROOM;
+  uint8_t *left = (uint8_t *)out + len;
+  const uint8_t *query = (const uint8_t *)text + parts.query.begin;
+  code = uriparse_drop_pairs(query, parts.query.end - parts.query.begin, names, names_len, left, len, &left_len);
+  if (code == URIPARSE_BAD_NAMES) {
+    *needed = 0;
+    return code;
+  }
+  memset(&changes, 0, sizeof changes);
+  changes.query.action = !parts.query.present ? URIPARSE_KEEP : code == URIPARSE_OK ? URIPARSE_SET : URIPARSE_REMOVE;
+  changes.query.end = changes.query.action == URIPARSE_SET ? left_len : 0;
+  return uriparse_change(text, len, &changes, left, changes.query.end, out, len, needed);
 }
 
 /* A call of many texts and another one, which the call of one text has accepted. */
@@ -271,6 +317,8 @@ static PyObject *many_and_one(PyObject *module, const struct many_and_one *row, 
 MANY(resolve_many, "resolve_many", {"base", "references", "is_raising"}, "reference", OR_URI, uriparse_resolve, NULL)
 MANY(relativize_many, "relativize_many", {"base", "uris", "is_raising"}, "uri", OR_URI, uriparse_relativize, NULL)
 MANY(is_within_many, "is_within_many", {"base", "uris", "is_raising"}, "uri", OR_URI, NULL, uriparse_is_within)
+MANY(pair_many, "pair_many", {"name", "uris", "is_raising"}, "text", PLAIN, write_value, NULL)
+MANY(without_pairs_many, "without_pairs_many", {"names", "uris", "is_raising"}, "text", PLAIN, write_left, NULL)
 MANY(host_is_within_many, "host_is_within_many", {"domain", "texts", "is_raising"}, "text", PLAIN, NULL, uriparse_host_is_within)
 
 /* The object that is made of a text and its components. */
@@ -306,6 +354,12 @@ static PyObject *make_component(const struct batch *batch, const struct text *te
   return reference_cut(text->source, text->bytes, spans[which]);
 }
 
+static PyObject *make_kind(const struct batch *batch, const struct text *text, const struct uriparse_parts *parts, size_t which) {
+  (void)text;
+  (void)which;
+  return reference_kind(batch->state, parts->host_kind);
+}
+
 static PyObject *parse_many(PyObject *module, PyObject *const *args, Py_ssize_t count, PyObject *kwnames) {
   static const char *const names[] = {"texts", "is_raising"};
   PyObject *sources[2];
@@ -314,23 +368,25 @@ static PyObject *parse_many(PyObject *module, PyObject *const *args, Py_ssize_t 
   return batch ? parse_all(batch, make_components, 0) : NULL;
 }
 
-/* The component is one of nine, by its number. */
+/* The component is one of nine, by its number, and the last one is the kind of the host. */
 static PyObject *get_many(PyObject *module, PyObject *const *args, Py_ssize_t count, PyObject *kwnames) {
   static const char *const names[] = {"component", "texts", "is_raising"};
   PyObject *sources[3];
   if (!take_arguments("get_many", names, 3, args, count, kwnames, sources)) return NULL;
   size_t which = PyLong_AsSize_t(sources[0]);
   if (PyErr_Occurred()) return NULL;
-  if (which > 8) {
+  if (which > 9) {
     PyErr_SetString(PyExc_ValueError, "no component has this number");
     return NULL;
   }
   struct batch *batch = batch_of(state_of(module), sources[1], sources[2], "text");
-  return batch ? parse_all(batch, make_component, which) : NULL;
+  return batch ? parse_all(batch, which < 9 ? make_component : make_kind, which) : NULL;
 }
 
 PyMethodDef many_methods[] = {METHOD("normalize_many", normalize_many, NULL), METHOD("key_many", key_many, NULL),
                               METHOD("resolve_many", resolve_many, NULL),
                               METHOD("relativize_many", relativize_many, NULL), METHOD("is_within_many", is_within_many, NULL),
                               METHOD("host_is_within_many", host_is_within_many, NULL), METHOD("parse_many", parse_many, NULL),
+                              METHOD("escape_many", escape_many, NULL), METHOD("pair_many", pair_many, NULL),
+                              METHOD("without_pairs_many", without_pairs_many, NULL),
                               METHOD("get_many", get_many, NULL), {NULL, NULL, 0, NULL}};

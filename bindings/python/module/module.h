@@ -119,6 +119,8 @@ write_call exact_key, normal_form_key, page_form_key;
 /* reference.c: the types of references that were read. */
 bool reference_types(PyObject *module, struct state *state);
 PyObject *reference_new(const struct state *state, PyTypeObject *type, const struct text *text, const struct uriparse_parts *parts);
+/* The name of the kind of a host, or None. */
+PyObject *reference_kind(const struct state *state, uint32_t kind);
 /* A component of what was read, or None: of `source` with these bytes, a str or not. */
 PyObject *reference_cut(PyObject *source, const uint8_t *bytes, const struct uriparse_span *span);
 /* The argument as a text, if it is a `URI`. */

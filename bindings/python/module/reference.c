@@ -102,16 +102,20 @@ static PyObject *get_component(PyObject *object, void *offset) {
   return reference_cut(self->text, self->bytes, (const struct uriparse_span *)((const char *)&self->parts + (size_t)offset));
 }
 
+PyObject *reference_kind(const struct state *state, uint32_t kind) {
+  switch (kind) {
+  case URIPARSE_HOST_NAME: return Py_NewRef(state->kinds[0]);
+  case URIPARSE_HOST_IPV4: return Py_NewRef(state->kinds[1]);
+  case URIPARSE_HOST_IPV6: return Py_NewRef(state->kinds[2]);
+  case URIPARSE_HOST_FUTURE: return Py_NewRef(state->kinds[3]);
+  default: Py_RETURN_NONE;
+  }
+}
+
 static PyObject *get_kind(PyObject *object, void *none) {
   const struct reference *self = (const struct reference *)object;
   (void)none;
-  switch (self->parts.host_kind) {
-  case URIPARSE_HOST_NAME: return Py_NewRef(self->state->kinds[0]);
-  case URIPARSE_HOST_IPV4: return Py_NewRef(self->state->kinds[1]);
-  case URIPARSE_HOST_IPV6: return Py_NewRef(self->state->kinds[2]);
-  case URIPARSE_HOST_FUTURE: return Py_NewRef(self->state->kinds[3]);
-  default: Py_RETURN_NONE;
-  }
+  return reference_kind(self->state, self->parts.host_kind);
 }
 
 static PyObject *get_port_number(PyObject *object, void *none) {

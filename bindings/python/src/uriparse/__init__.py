@@ -35,9 +35,9 @@ from ._uriparse import (compare, decode, default_port, equal, form_decode, hash_
 
 __all__ = [
     "COMPONENTS", "ENCODED", "IN_BASE", "NO_ROOM", "URI", "Buffer", "Code", "Component", "Components", "Encodable",
-    "HostFlag", "HostKind", "Parts", "Span", "Text", "URIError", "encode", "error_text", "get_many",
-    "host_is_within_many", "is_within_many", "key_many", "normalize_many", "parse_many", "relativize_many", "replace",
-    "resolve_many", "without_pair", "without_pairs"]
+    "HostFlag", "HostKind", "Parts", "Span", "Text", "URIError", "encode", "error_text", "escape_many",
+    "get_many", "host_is_within_many", "is_within_many", "key_many", "normalize_many", "pair_many", "parse_many",
+    "relativize_many", "replace", "resolve_many", "without_pair", "without_pairs", "without_pairs_many"]
 # methods.tsv: names
 __all__ += ["compare", "decode", "default_port", "equal", "escape", "first_fault", "form_decode", "hash_of",
             "host_address", "host_flags", "host_is_within", "host_is_within_any", "is_ambiguous", "is_normalized",
@@ -443,6 +443,9 @@ def normalize_many(texts: Iterable[Union[Text, URI]], errors: str = "none") -> L
     return _uriparse.normalize_many(texts, _is_raising(errors))
 
 
+# What `get_many` reads, by the numbers that the module has for it.
+_READ: Tuple[Union[Component, Literal["host_kind"]], ...] = (*COMPONENTS, "host_kind")
+
 _FORMS = {"exact": 0, "normal": 1, "page": 2}
 
 
@@ -531,6 +534,53 @@ def host_is_within_many(texts: Iterable[Union[Text, URI]], domain: Text, errors:
 
 
 @overload
+def pair_many(uris: Iterable[Buffer], name: Union[Buffer, int], errors: Literal["none", "raise"] = "none") -> List[Optional[bytes]]: ...
+@overload
+def pair_many(uris: Iterable[Union[str, URI]], name: Union[str, int],
+              errors: Literal["none", "raise"] = "none") -> List[Optional[str]]: ...
+def pair_many(uris: Iterable[Union[Text, URI]], name: Any, errors: str = "none") -> List[Any]:
+    """The decoded value of the first pair with this name of each reference, as `pair` returns it, or None if there is none or the reference
+    is rejected; with errors="raise" the first that is rejected raises its URIError. A name that is an int is of str."""
+    if isinstance(name, int) and not isinstance(name, bool):
+        name = _digits(name, True)
+    if isinstance(name, str):
+        pair("", name)
+    else:
+        pair(b"", name)
+    return _uriparse.pair_many(name, uris, _is_raising(errors))
+
+
+@overload
+def without_pairs_many(uris: Iterable[Buffer], *names: Buffer, errors: Literal["none"] = "none") -> List[Optional[bytes]]: ...
+@overload
+def without_pairs_many(uris: Iterable[Buffer], *names: Buffer, errors: Literal["raise"]) -> List[bytes]: ...
+@overload
+def without_pairs_many(uris: Iterable[Union[str, URI]], *names: str, errors: Literal["none"] = "none") -> List[Optional[str]]: ...
+@overload
+def without_pairs_many(uris: Iterable[Union[str, URI]], *names: str, errors: Literal["raise"]) -> List[str]: ...
+def without_pairs_many(uris: Iterable[Union[Text, URI]], *names: Any, errors: str = "none") -> List[Any]:
+    """Each reference without the pairs of these names, of which there is one at least, as `without_pairs` returns it, or None for one that
+    is rejected; with errors="raise" the first of these raises its URIError. Rejected names always raise their own."""
+    if not names:
+        raise TypeError("without_pairs_many() lacks the name of a pair")
+    if isinstance(names[0], str):
+        without_pairs("", *names)
+    else:
+        without_pairs(b"", *names)
+    written: Union[str, bytes] = "&".join(names) if isinstance(names[0], str) else b"&".join(names)
+    return _uriparse.without_pairs_many(written, uris, _is_raising(errors))
+
+
+@overload
+def escape_many(texts: Iterable[Buffer]) -> List[bytes]: ...
+@overload
+def escape_many(texts: Iterable[Union[str, URI]]) -> List[str]: ...
+def escape_many(texts: Iterable[Union[Text, URI]]) -> List[Any]:
+    """A reference made of each text, as `escape` makes it."""
+    return _uriparse.escape_many(texts)
+
+
+@overload
 def parse_many(texts: Iterable[Buffer], errors: Literal["none"] = "none") -> List[Optional[Components[bytes]]]: ...
 @overload
 def parse_many(texts: Iterable[Buffer], errors: Literal["raise"]) -> List[Components[bytes]]: ...
@@ -545,13 +595,17 @@ def parse_many(texts: Iterable[Union[Text, URI]], errors: str = "none") -> List[
 
 
 @overload
+def get_many(component: Literal["host_kind"], texts: Iterable[Union[Text, URI]],
+             errors: Literal["none", "raise"] = "none") -> List[Optional[HostKind]]: ...
+@overload
 def get_many(component: Component, texts: Iterable[Buffer], errors: Literal["none", "raise"] = "none") -> List[Optional[bytes]]: ...
 @overload
 def get_many(component: Component, texts: Iterable[Union[str, URI]],
              errors: Literal["none", "raise"] = "none") -> List[Optional[str]]: ...
-def get_many(component: Component, texts: Iterable[Union[Text, URI]], errors: Literal["none", "raise"] = "none") -> List[Any]:
-    """A component of each text, one of the names in COMPONENTS, or None if it is absent or the text is rejected; with
-    errors="raise" the first rejected text raises its URIError. Takes less time than `parse_many`."""
-    if component not in COMPONENTS:
-        raise ValueError("no component %r: it is one of %s" % (component, ", ".join(COMPONENTS)))
-    return _uriparse.get_many(COMPONENTS.index(component), texts, _is_raising(errors))
+def get_many(component: Union[Component, Literal["host_kind"]], texts: Iterable[Union[Text, URI]],
+             errors: Literal["none", "raise"] = "none") -> List[Any]:
+    """A component of each text, one of the names in COMPONENTS, or the kind of its host (`host_kind`), or None if it is absent or the
+    text is rejected; with errors="raise" the first rejected text raises its URIError. Takes less time than `parse_many`."""
+    if component not in _READ:
+        raise ValueError("no component %r: it is one of %s" % (component, ", ".join(_READ)))
+    return _uriparse.get_many(_READ.index(component), texts, _is_raising(errors))
