@@ -157,6 +157,11 @@ uint32_t uriparse_mask_password(uriparse_bytes text, size_t len, uriparse_buffer
   return proved_mask_password(text_of(text, len), len, room_of(out, room), room, needed);
 }
 
+uint32_t proved_request_target(const uint8_t *text, size_t len, uint8_t *out, size_t room, size_t *needed);
+uint32_t uriparse_request_target(uriparse_bytes text, size_t len, uriparse_buffer out, size_t room, size_t *needed) {
+  return proved_request_target(text_of(text, len), len, room_of(out, room), room, needed);
+}
+
 bool proved_next_segment(const uint8_t *path, size_t len, size_t at, struct uriparse_span *segment);
 bool uriparse_next_segment(uriparse_bytes path, size_t len, size_t at, struct uriparse_span *segment) {
   return proved_next_segment(text_of(path, len), len, at, segment);
@@ -273,6 +278,7 @@ const char *uriparse_error_text(uint32_t code) {
   case URIPARSE_SCHEME_BYTE: return "invalid scheme character";
   case URIPARSE_SCHEME_LETTER: return "scheme starts with non-alphabetic character";
   case URIPARSE_KEY_FLAGS: return "no key has these flags";
+  case URIPARSE_NO_TARGET: return "the path is in no target of a request";
   /* codes.tsv: end */
   default: return "unknown code";
   }
@@ -289,6 +295,7 @@ uint32_t uriparse_error_component(uint32_t code) {
   case URIPARSE_BAD_NAMES: return URIPARSE_QUERY;
   case URIPARSE_NO_PAIRS: return URIPARSE_QUERY;
   case URIPARSE_KEY_FLAGS: return 0;
+  case URIPARSE_NO_TARGET: return URIPARSE_SEGMENT;
   /* codes.tsv: end */
   default: return code & URIPARSE_COMPONENT_MASK;
   }

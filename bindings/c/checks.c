@@ -122,8 +122,13 @@ static uint32_t mask_password(const char *text, size_t len, uint8_t *out, size_t
   return uriparse_mask_password(text, len, out, room, needed);
 }
 
+static uint32_t request_target(const char *text, size_t len, uint8_t *out, size_t room, size_t *needed) {
+  return uriparse_request_target(text, len, out, room, needed);
+}
+
 static void shows(uint32_t (*call)(const char *, size_t, uint8_t *, size_t, size_t *), const char *text, const char *expected) {
-  writes(call, call == mask_password ? "mask_password" : "without_default_port", text, strlen(text), expected, strlen(expected));
+  const char *name = call == mask_password ? "mask_password" : call == request_target ? "request_target" : "without_default_port";
+  writes(call, name, text, strlen(text), expected, strlen(expected));
 }
 
 /* The segments of a path, each as [segment]. What is written beyond the end stays. */
@@ -414,6 +419,17 @@ int main(void) {
   shows(mask_password, "", "");
   check(mask_password("//u:%@h", 7, out, sizeof out, &needed) == URIPARSE_PASSWORD_ESCAPE && needed == 0, "mask_password rejects", "//u:%@h");
 
+  shows(request_target, "http://u@h:1/a/b?c#d", "/a/b?c");
+  shows(request_target, "http://h", "/");
+  shows(request_target, "http://h?q", "/?q");
+  shows(request_target, "http://h//a?", "//a?");
+  shows(request_target, "/%7e/..", "/%7e/..");
+  shows(request_target, "#f", "/");
+  check(request_target("mailto:a", 8, out, sizeof out, &needed) == URIPARSE_NO_TARGET && needed == 0, "request_target rejects", "mailto:a");
+  check(request_target("a/b", 3, out, sizeof out, &needed) == URIPARSE_NO_TARGET && needed == 0, "request_target rejects", "a/b");
+  check(request_target("/a b", 4, out, sizeof out, &needed) == URIPARSE_PATH_BYTE && needed == 0, "request_target rejects", "/a b");
+  check(uriparse_error_component(URIPARSE_NO_TARGET) == URIPARSE_SEGMENT, "error_component", "NO_TARGET");
+
   segments("/a/b", "[a][b]");
   segments("a/b", "[a][b]");
   segments("", "[]");
@@ -501,6 +517,7 @@ int main(void) {
   check(uriparse_host_is_within_any(NULL, 0, NULL, 0, &within) == URIPARSE_OK && !within, "host_is_within_any", "NULL");
   check(uriparse_without_default_port(NULL, 0, NULL, 0, &needed) == URIPARSE_OK && needed == 0, "without_default_port", "NULL");
   check(uriparse_mask_password(NULL, 0, NULL, 0, &needed) == URIPARSE_OK && needed == 0, "mask_password", "NULL");
+  check(uriparse_request_target(NULL, 0, NULL, 0, &needed) == URIPARSE_NO_ROOM && needed == 1, "request_target", "NULL");
   check(uriparse_default_port(NULL, 0) == 0, "default_port", "NULL");
   check(uriparse_set_pair(NULL, 0, NULL, 0, NULL, 0, false, NULL, 0, &needed) == URIPARSE_OK && needed == 0, "set_pair", "NULL");
   check(uriparse_append_pair(NULL, 0, NULL, 0, NULL, 0, true, NULL, 0, &needed) == URIPARSE_NO_ROOM && needed == 1, "append_pair", "NULL");

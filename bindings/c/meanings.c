@@ -220,11 +220,11 @@ static void writes_part(const char *call, struct field text) {
     const char *name;
     uint32_t (*call)(uriparse_bytes, size_t, uriparse_buffer, size_t, size_t *);
   } calls[] = {{"origin", uriparse_origin}, {"host_address", uriparse_host_address}, {"without_default_port", uriparse_without_default_port},
-               {"mask_password", uriparse_mask_password}};
+               {"mask_password", uriparse_mask_password}, {"request_target", uriparse_request_target}};
   size_t which = 0;
   while (strcmp(calls[which].name, call) != 0) which++;
   const uint32_t code = calls[which].call(text.at, text.len, out, ROOM, &len);
-  if (code == URIPARSE_NO_ORIGIN || code == URIPARSE_NO_ADDRESS) {
+  if (code == URIPARSE_NO_ORIGIN || code == URIPARSE_NO_ADDRESS || code == URIPARSE_NO_TARGET) {
     has_none();
   } else if (code != URIPARSE_OK) {
     rejects_text(code, 1, text);
@@ -345,7 +345,7 @@ static bool is_one_of(const char *call, const char *const *names) {
 static void answer(const struct meaning *row) {
   static const char *const reading[] = {"check", "port", "port_number", "host_kind", NULL};
   static const char *const of_pairs[] = {"pairs", "pair", "pair_values", "with_pair", "with_appended_pair", "without_pairs", "without_pair", NULL};
-  static const char *const with_part[] = {"origin", "host_address", "without_default_port", "mask_password", NULL};
+  static const char *const with_part[] = {"origin", "host_address", "without_default_port", "mask_password", "request_target", NULL};
   static const char *const decoding[] = {"decode", "form_decode", NULL};
   static const char *const writing[] = {"resolve", "relativize", "encode", "trim_link", "key", "page_key", NULL};
   static const char *const with_number[] = {"host_flags", "port_or_default", "is_normalized", "is_public", "hash", NULL};

@@ -106,6 +106,7 @@ static const call_of_row calls[] = {
     {"pair_values", [](auto text, auto name, auto) { return listed_values(text, name); }},
     {"segments", [](auto text, auto, auto) { return listed_segments(text); }},
     {"without_default_port", [](auto text, auto, auto) { return uriparse::without_default_port(text); }},
+    {"request_target", [](auto text, auto, auto) { return shown(uriparse::request_target(text)); }},
     {"mask_password", [](auto text, auto, auto) { return uriparse::mask_password(text); }},
     {"host_is_within_any", [](auto text, auto domains, auto) { return shown(uriparse::host_is_within_any(text, domains)); }},
     {"origin", [](auto text, auto, auto) { return shown(uriparse::origin(text)); }},
@@ -203,6 +204,7 @@ static void check_random(std::string_view base, std::string_view text) {
       {"host_address", [&] { return uriparse::host_address(text).value_or("code " + std::to_string(URIPARSE_NO_ADDRESS)); }},
       {"key", [&] { return uriparse::key(text, URIPARSE_KEY_PAGE); }},
       {"form_decode", [&] { return uriparse::form_decode(text); }}, {"trim_link", [&] { return uriparse::trim_link(text); }},
+      {"request_target", [&] { return uriparse::request_target(text).value_or("code " + std::to_string(URIPARSE_NO_TARGET)); }},
       {"origin", [&] { return uriparse::origin(text).value_or("code " + std::to_string(URIPARSE_NO_ORIGIN)); }},
       {"change", [&] { return uriparse::replace(text, changes); }}};
   for (const auto &[name, call] : rows) check(by_header(call) == by_c(name, base, text), name, text);

@@ -53,6 +53,7 @@ static const struct {
     {URIPARSE_SCHEME_EMPTY, "SCHEME_EMPTY"},
     {URIPARSE_SCHEME_BYTE, "SCHEME_BYTE"},
     {URIPARSE_SCHEME_LETTER, "SCHEME_LETTER"},
+    {URIPARSE_NO_TARGET, "NO_TARGET"},
     /* codes.tsv: end */
 };
 

@@ -246,7 +246,7 @@ static void texts(void) {
   for (uint32_t code = 0; code < 0x100; code++) {
     named += strcmp(uriparse_error_text(code), "unknown code") != 0;
   }
-  check(named == 36, "texts", "codes");
+  check(named == 37, "texts", "codes");
   check(strcmp(uriparse_error_text(URIPARSE_IN_BASE | URIPARSE_PORT_RANGE), "port overflow") == 0, "text", "0x142");
   check((URIPARSE_USERNAME_BYTE & URIPARSE_COMPONENT_MASK) == URIPARSE_USERNAME
             && (URIPARSE_PASSWORD_ESCAPE & URIPARSE_COMPONENT_MASK) == URIPARSE_PASSWORD

@@ -230,6 +230,8 @@ static void check_checks() {
   check(throws([] { uriparse::host_is_within_any("//h", "h  a:1"); }, URIPARSE_HOST_BYTE, 1, 4), "host_is_within_any rejects");
   check(throws([] { uriparse::host_is_within_any("//h:x", "a:1"); }, URIPARSE_PORT_BYTE, 0, 4), "host_is_within_any rejects the text");
   check(uriparse::without_default_port("HTTP://H:080/%7e") == "HTTP://H/%7e" && uriparse::without_default_port("//h:80") == "//h:80", "without_default_port");
+  check(uriparse::request_target("http://h//a?b#c") == "//a?b" && uriparse::request_target("//h") == "/" && !uriparse::request_target("s:a"), "request_target");
+  check(throws([] { uriparse::request_target("/ "); }, URIPARSE_PATH_BYTE, 0, 1), "request_target rejects");
   check(uriparse::mask_password("//u:secret@h") == "//u:***@h" && uriparse::mask_password("//u@h") == "//u@h", "mask_password");
   check(throws([] { uriparse::mask_password("//u:%@h"); }, URIPARSE_PASSWORD_ESCAPE, 0, 4), "mask_password rejects");
   check(uriparse::host_flags("//%31.2.3.4") == (URIPARSE_HIDES_ADDRESS | URIPARSE_MAY_BE_NUMERIC) && uriparse::host_flags("a") == 0, "host_flags");

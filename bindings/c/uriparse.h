@@ -82,6 +82,7 @@ enum uriparse_code {
   URIPARSE_SCHEME_BYTE = 0x81,      /* A byte that no scheme has. */
   URIPARSE_SCHEME_LETTER = 0x82,    /* The first byte of a scheme that is set is no letter. */
   URIPARSE_KEY_FLAGS = 0x90,        /* `uriparse_key` was called with flags that have no meaning. */
+  URIPARSE_NO_TARGET = 0x91,        /* The path neither is empty nor begins with a slash: returned by `uriparse_request_target` alone. */
   /* codes.tsv: end */
 
   URIPARSE_COMPONENT_MASK = 0xf0, /* the digit of a code that names the component */
@@ -423,6 +424,12 @@ uint32_t uriparse_without_default_port(uriparse_bytes text, size_t len, uriparse
  * keep their bytes, so a secret elsewhere, as in the query, is still there. What is written is a reference. To remove the user
  * information, use `uriparse_change`. */
 uint32_t uriparse_mask_password(uriparse_bytes text, size_t len, uriparse_buffer out, size_t room, size_t *needed);
+
+/* Writes to `out` the target of an HTTP request for a reference, as `uriparse_normalize` writes: the origin-form of RFC 9112,
+ * section 3.2.1. It is the path, or "/" in place of an empty one, and after a '?' the query, if there is one; the fragment is left
+ * out. All bytes are kept, and dot segments stay. Two slashes at its start ("//a" of "http://h//a") are part of the path, so don't
+ * read a target as a reference. Returns URIPARSE_NO_TARGET for a path that neither is empty nor begins with a '/'. */
+uint32_t uriparse_request_target(uriparse_bytes text, size_t len, uriparse_buffer out, size_t room, size_t *needed);
 
 /* Writes to `*segment` where the first segment is that is left of a path from `at` on. Returns whether there is one: if `at`
  * is greater than `len` there is none, and `*segment` is unchanged. To read all segments:

@@ -326,6 +326,9 @@ template <class Call> std::optional<std::string> write_part(Call call, std::stri
 
 inline std::optional<std::string> origin(input text) { return detail::write_part(uriparse_origin, text, URIPARSE_NO_ORIGIN); }
 
+// The path and the query, as an HTTP request has them (RFC 9112, section 3.2.1): absent for a path that begins without a '/'.
+inline std::optional<std::string> request_target(input text) { return detail::write_part(uriparse_request_target, text, URIPARSE_NO_TARGET); }
+
 // The 4 bytes of the host if it is an IPv4 address, the 16 bytes if it is an IPv6 address.
 inline std::optional<std::string> host_address(input text) { return detail::write_part(uriparse_host_address, text, URIPARSE_NO_ADDRESS); }
 

@@ -173,6 +173,7 @@ def test_rows(database: str) -> str:
         ("uri_host_is_within_any('//h', 'h a:1')", None), ("uri_host_is_within_any('a b', 'h')", None), ("uri_host_is_within_any('//h', NULL)", None),
         ("uri_without_default_port('HTTP://H:080/%7e')", "HTTP://H/%7e"), ("uri_without_default_port(uri '//h:80')", "//h:80"),
         ("uri_without_default_port('a b')", None), ("uri_mask_password('ftp://u:secret@h')", "ftp://u:***@h"),
+        ("uri_request_target('http://h//a?b#c')", "//a?b"), ("uri_request_target(uri '//h')", "/"), ("uri_request_target('s:a')", None),
         ("uri_mask_password(uri '//u:@h')", "//u:***@h"), ("uri_mask_password('a b')", None),
         ("array_agg(s) FROM uri_segments('http://h/a%2Fb/%C3%A9//%FF/%00') AS s", '{a/b,\u00c3\u00a9,"",NULL,NULL}'),
         ("count(*) FROM uri_segments(uri '')", "1"), ("count(*) FROM uri_segments('a b')", "0"), ("count(*) FROM uri_segments(NULL::text)", "0"),
@@ -276,6 +277,7 @@ def test_changed_pairs(texts: List[bytes]) -> str:
             shown_answer = {True: b"true", False: b"false", None: None}[found] if isinstance(found, bool) or found is None else b"%d" % found
             lines.append((call, [left, right, None, shown_answer]))
         lines.append(("uri_without_default_port", [text, None, None, uriparse.without_default_port(text)]))
+        lines.append(("uri_request_target", [text, None, None, uriparse.request_target(text)]))
         lines.append(("uri_mask_password", [text, None, None, uriparse.mask_password(text)]))
     data = "".join("%d\t%s\t%s\n" % (at, call, "\t".join(
         "\\N" if value is None else value.hex() for value in values)) for at, (call, values) in enumerate(lines))
@@ -286,7 +288,7 @@ def test_changed_pairs(texts: List[bytes]) -> str:
         ("uri_without_param", "uri_without_param(a, b)"), ("uri_without_params", "uri_without_params(a, b, c)"),
         ("uri_is_within", "uri_is_within(a, b)"), ("uri_host_is_within", "uri_host_is_within(a, b)"),
         ("uri_host_is_within_any", "uri_host_is_within_any(a, b)"), ("uri_without_default_port", "uri_without_default_port(a)"),
-        ("uri_mask_password", "uri_mask_password(a)"), ("uri_compare", "uri_compare(a, b)"),
+        ("uri_request_target", "uri_request_target(a)"), ("uri_mask_password", "uri_mask_password(a)"), ("uri_compare", "uri_compare(a, b)"),
         ("uri_host_flags", "uri_host_flags(a)"), ("uri_is_uri", "uri_is_uri(a)")))
     psql("utf8", "CREATE TABLE called AS SELECT at, call, a, b, c, answer, CASE call %s END AS found FROM (SELECT at, call, %s FROM hexed) h" % (
         calls, columns))

@@ -199,6 +199,12 @@ write_without_default_port(const struct bytes *texts, char *out, size_t room, si
 }
 
 static uint32_t
+write_request_target(const struct bytes *texts, char *out, size_t room, size_t *needed)
+{
+	return uriparse_request_target(texts[0].at, texts[0].len, out, room, needed);
+}
+
+static uint32_t
 write_masked(const struct bytes *texts, char *out, size_t room, size_t *needed)
 {
 	return uriparse_mask_password(texts[0].at, texts[0].len, out, room, needed);
@@ -327,6 +333,13 @@ Datum
 uri_without_default_port(PG_FUNCTION_ARGS)
 {
 	return written(fcinfo, write_without_default_port);
+}
+
+PG_FUNCTION_INFO_V1(uri_request_target);
+Datum
+uri_request_target(PG_FUNCTION_ARGS)
+{
+	return written(fcinfo, write_request_target);
 }
 
 PG_FUNCTION_INFO_V1(uri_mask_password);

@@ -199,7 +199,7 @@ def test_wrong_types() -> None:
     single: List[Callable[..., object]] = [
         uriparse.parse, uriparse.spans, uriparse.first_fault, uriparse.is_uri, uriparse.hash_of, uriparse.normalize,
         uriparse.origin, uriparse.pairs, uriparse.decode, uriparse.form_decode, uriparse.escape, uriparse.trim_link, uriparse.is_normalized,
-        uriparse.key, uriparse.normal_key, uriparse.page_key, uriparse.is_public, uriparse.segments, uriparse.without_default_port, uriparse.mask_password,
+        uriparse.key, uriparse.normal_key, uriparse.page_key, uriparse.is_public, uriparse.segments, uriparse.without_default_port, uriparse.mask_password, uriparse.request_target,
         uriparse.is_ambiguous, uriparse.port_or_default, uriparse.host_address, lambda data: uriparse.encode("query", data)]
     for call in single:
         for other, name in ((None, "None"), (5, "int"), ([97], "list"), (memoryview(b"abcd").cast("I"), "memoryview")):
@@ -241,6 +241,8 @@ def test_str() -> None:
     assert uriparse.segments("") == [""] == uriparse.segments("/") and uriparse.URI("//h/a//?b/c").segments() == ["a", "", ""]
     assert uriparse.without_default_port("HTTP://H:080/%7e") == "HTTP://H/%7e" and uriparse.without_default_port(b"//h:80") == b"//h:80"
     assert str(uriparse.URI("https://h:443").without_default_port()) == "https://h" and uriparse.mask_password(b"//u:p@h") == b"//u:***@h"
+    assert uriparse.request_target("http://h//a?b#c") == "//a?b" == uriparse.URI("http://h//a?b#c").request_target() and uriparse.request_target(b"//h") == b"/"
+    assert uriparse.request_target("mailto:a") is None is uriparse.URI("a").request_target()
     assert uriparse.mask_password("ftp://u:secret@h/%7e") == "ftp://u:***@h/%7e" == str(uriparse.URI("ftp://u:secret@h/%7e").mask_password())
     assert uriparse.pairs("a=1&\u00fc=&c") == [("a", "1"), ("\u00fc", ""), ("c", None)] and uriparse.pairs("") == [("", None)]
     assert uriparse.first_fault("/a%4") == (0x52, 2) and uriparse.first_fault("/a") is None and uriparse.first_fault("a\u00fc") == (0x51, 1)

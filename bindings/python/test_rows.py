@@ -46,7 +46,7 @@ CALLS: Dict[str, Tuple[Callable[..., Any], Tuple[str, ...]]] = {
     "same_origin": (uriparse.same_origin, ("left", "right")), "trim_link": (uriparse.trim_link, ("text",)),
     "form_decode": (uriparse.form_decode, ("text",)), "pair_values": (pair_values, ("text", "name")),
     "segments": (segments, ("text",)), "without_default_port": (uriparse.without_default_port, ("text",)),
-    "mask_password": (uriparse.mask_password, ("text",)), "host_is_within_any": (uriparse.host_is_within_any, ("text", "domains")),
+    "request_target": (uriparse.request_target, ("text",)), "mask_password": (uriparse.mask_password, ("text",)), "host_is_within_any": (uriparse.host_is_within_any, ("text", "domains")),
     "escape": (uriparse.escape, ("text",)), "decode": (uriparse.decode, ("text",)),
     "encode": (lambda component, data: uriparse.encode(component if isinstance(component, str) else component.decode(), data), ("component", "data")),
     "pairs": (pairs, ("text",)), "pair": (uriparse.pair, ("text", "name")), "with_pair": (uriparse.with_pair, ("text", "name", "value")),

@@ -221,7 +221,8 @@ def test_changes(db: sqlite3.Connection) -> int:
             ("uri_without_default_port('HTTP://H:080/%7e')", "HTTP://H/%7e"), ("uri_without_default_port('//h:80')", "//h:80"),
             ("uri_without_default_port('a b')", None), ("uri_without_default_port(NULL)", None),
             ("uri_mask_password('ftp://u:secret@h')", "ftp://u:***@h"), ("uri_mask_password(x'2f2f753a4068')", "//u:***@h"),
-            ("uri_mask_password('a b')", None), ("uri_mask_password(NULL)", None),
+            ("uri_request_target('http://h//a?b#c')", "//a?b"), ("uri_request_target('//h')", "/"), ("uri_request_target('s:a')", None),
+            ("uri_request_target('/a b')", None), ("uri_request_target(NULL)", None), ("uri_mask_password('a b')", None), ("uri_mask_password(NULL)", None),
             ("group_concat(segment, '|') FROM uri_segments('http://h/a%2Fb/%C3%BC//')", "a/b|\u00fc||"), ("count(*) FROM uri_segments", 0),
             ("segment FROM uri_segments('/a/%FF') WHERE rowid = 1", b"\xff"), ("count(*) FROM uri_segments('a b')", 0), ("count(*) FROM uri_segments(NULL)", 0),
             ("count(*) FROM uri_segments(x'')", 1), ("count(*) FROM uri_segments('')", 1), ("uri FROM uri_segments('/')", "/"),
@@ -357,6 +358,7 @@ def test_changed_pairs(db: sqlite3.Connection) -> int:
         domains = domain + b" " + draw.choice(fuzz.HOSTS)
         assert one(db, "uri_host_is_within_any(?, ?)", text, domains) == answer_of(uriparse.host_is_within_any, text, domains), (text, domains)
         assert one(db, "uri_without_default_port(?)", text) == uriparse.without_default_port(text).decode(), text
+        assert one(db, "uri_request_target(?)", text) == ((found := uriparse.request_target(text)) and found.decode()), text
         assert one(db, "uri_mask_password(?)", text) == uriparse.mask_password(text).decode(), text
         found = db.execute("SELECT segment FROM uri_segments(?)", (text,)).fetchall()
         assert found == [(as_value(uriparse.decode(segment)),) for segment in uriparse.segments(uriparse.parse(text).path)], text

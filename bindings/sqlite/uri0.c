@@ -281,6 +281,10 @@ static uint32_t write_without_default_port(const struct text *texts, char *out, 
   return uriparse_without_default_port(texts[0].at, texts[0].len, out, room, needed);
 }
 
+static uint32_t write_request_target(const struct text *texts, char *out, size_t room, size_t *needed) {
+  return uriparse_request_target(texts[0].at, texts[0].len, out, room, needed);
+}
+
 static uint32_t write_masked(const struct text *texts, char *out, size_t room, size_t *needed) {
   return uriparse_mask_password(texts[0].at, texts[0].len, out, room, needed);
 }
@@ -342,6 +346,10 @@ static void escape(sqlite3_context *context, int count, sqlite3_value **values) 
 
 static void without_default_port(sqlite3_context *context, int count, sqlite3_value **values) {
   result_written(context, count, values, write_without_default_port);
+}
+
+static void request_target(sqlite3_context *context, int count, sqlite3_value **values) {
+  result_written(context, count, values, write_request_target);
 }
 
 static void mask_password(sqlite3_context *context, int count, sqlite3_value **values) {
@@ -861,7 +869,7 @@ static const struct {
   {"uri_form_decode", 1, form_decode, NULL}, {"uri_trim_link", 1, trim_link, NULL},
   {"uri_fault_text", 1, fault_text, NULL}, {"uri_key", 1, key, NULL},
   {"uri_host_is_within_any", 2, host_is_within_any, NULL}, {"uri_without_default_port", 1, without_default_port, NULL},
-  {"uri_mask_password", 1, mask_password, NULL},
+  {"uri_mask_password", 1, mask_password, NULL}, {"uri_request_target", 1, request_target, NULL},
   {"uri_is_public", 1, is_public, NULL},   {"uri_normal_key", 1, normal_key, NULL}, {"uri_page_key", 1, page_key, NULL},
 };
 

@@ -9,6 +9,7 @@ import { load, URIParseError } from "./uriparse.mjs";
 const HOST_KINDS = { name: 1, ipv4: 4, ipv6: 6, ipvfuture: 7 };
 const NO_ORIGIN = 10;
 const NO_ADDRESS = 15;
+const NO_TARGET = 0x91;
 
 const [module, rows] = process.argv.slice(2);
 const uris = await load(pathToFileURL(module));
@@ -77,6 +78,7 @@ function row(number, base, text) {
     change: result(() => uris.replace(text, { query: base, port: null })), compare: result(() => String(uris.compare(base, text))),
     is_within: result(() => uris.isWithin(text, base)), host_is_within: result(() => uris.hostIsWithin(text, base)),
     host_is_within_any: result(() => uris.hostIsWithinAny(text, base)), without_default_port: result(() => uris.withoutDefaultPort(text)),
+    request_target: result(() => uris.requestTarget(text) ?? NO_TARGET),
     mask_password: result(() => uris.maskPassword(text)), segments: [...uris.segments(text), null],
     host_flags: result(() => flags(text)), default_port: uris.defaultPort(text) ?? 0, resolve: result(() => uris.resolve(base, text)),
     pairs: uris.pairs(text), encode: [null, ...["username", "password", "segment", "query", "fragment", "pair"].map((name) => [name, uris.encode(name, text)])],

@@ -161,7 +161,7 @@ await test("sort keys", () => {
 await test("a value that is no text", () => {
   for (const value of [undefined, null, 1, true, ["a"], {}, Symbol("a")]) {
     for (const name of ["parse", "fault", "isURI", "hash", "normalize", "origin", "escape", "decode", "formDecode", "trimLink", "isNormalized", "isPublic",
-      "key", "isAmbiguous", "portOrDefault", "hostAddress", "segments", "withoutDefaultPort", "maskPassword", ...(value === null ? [] : ["pairs"])]) {
+      "key", "isAmbiguous", "portOrDefault", "hostAddress", "segments", "withoutDefaultPort", "maskPassword", "requestTarget", ...(value === null ? [] : ["pairs"])]) {
       assert.throws(() => uris[name](value), TypeError, name);
     }
     assert.throws(() => uris.pair("s:", value), TypeError);
@@ -269,6 +269,8 @@ await test("addresses, ports, segments, forms and links", () => {
   assert.throws(() => uris.segments("\ud800"), TypeError);
   assert.equal(uris.withoutDefaultPort("HTTP://H:080/%7e"), "HTTP://H/%7e");
   assert.equal(uris.maskPassword(new URL("ftp://u:secret@h/")), "ftp://u:***@h/");
+  assert.deepEqual(["http://h//a?b#c", "//h", "?q", "s:a", "a/b"].map(uris.requestTarget), ["//a?b", "/", "/?q", null, null]);
+  assert.throws(() => uris.requestTarget("/a b"), { code: 0x51, place: 2, argument: "text" });
   assert.throws(() => uris.maskPassword("//u:%@h"), { code: 0x22, place: 4, argument: "text" });
   assert.deepEqual(uris.pairValues("?a=1&b&%61=%C3%BC&a", "a"), ["1", "\u00fc", ""]);
   assert.deepEqual(uris.pairValues("?%FF=1&a&%ff=2", uris.decode("%FF")), ["1", "2"]);
@@ -378,6 +380,7 @@ const SHARED = {
   port_or_default: [uris.portOrDefault, "text"], host_address: [(text) => spelled(uris.hostAddress(text)), "text"], hash: [uris.hash, "text"],
   pair_values: [listedValues, "text"], form_decode: [(text) => spelled(uris.formDecode(text)), "text"], trim_link: [uris.trimLink, "text"],
   segments: [listedSegments, "text"], without_default_port: [uris.withoutDefaultPort, "text"], mask_password: [uris.maskPassword, "text"],
+  request_target: [uris.requestTarget, "text"],
   host_is_within_any: [uris.hostIsWithinAny, "text", "domains"],
   encode: [uris.encode], key: [(text) => uris.key(text), "text"], page_key: [(text) => uris.key(text, "page"), "text"],
   replace: [(text, name, value) => uris.replace(text, { [name]: value }), "text"],

@@ -23,7 +23,7 @@ async function told(text: string): Promise<string> {
   const port: number | null = uris.defaultPort("http");
   const values_of_name: string[] = uris.pairValues(text, "a");
   const address: Uint8Array | null = uris.hostAddress(text);
-  const shown: string[] = [...uris.segments(parts.path), uris.withoutDefaultPort(text), uris.maskPassword(text)];
+  const shown: string[] = [...uris.segments(parts.path), uris.withoutDefaultPort(text), uris.maskPassword(text), uris.requestTarget(text) ?? ""];
   const used: number | null = uris.portOrDefault(text);
   const is: boolean[] = [uris.sameOrigin(text, text), uris.isNormalized(uris.trimLink(text)), uris.isPublic(text), uris.isAmbiguous("a")];
   const keys: string = uris.key(text) + uris.key(text, "normal") + uris.key(text, "page");

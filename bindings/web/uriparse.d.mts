@@ -120,6 +120,8 @@ export interface URIs {
   withoutDefaultPort(text: Input): string;
   /** A secret elsewhere, as in the query, stays. */
   maskPassword(text: Input): string;
+  /** The path, or "/" in place of an empty one, and the query. Null for a path that begins without a "/". */
+  requestTarget(text: Input): string | null;
   /** As they stand in the path, one at least: `decode` reads each. A lone surrogate is a `TypeError`. */
   segments(path: string): string[];
   /** A lone surrogate is a `TypeError`. */

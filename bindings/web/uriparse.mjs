@@ -41,6 +41,7 @@ const CODES = {
   0x81: ["scheme", "invalid scheme character"],
   0x82: ["scheme", "scheme starts with non-alphabetic character"],
   0x90: [null, "no key has these flags"],
+  0x91: ["path", "the path is in no target of a request"],
   // codes.tsv: end
 };
 
@@ -54,6 +55,7 @@ const MISSING_HOST = 11;
 const BAD_NAMES = 13;
 const NO_PAIRS = 14;
 const NO_ADDRESS = 15;
+const NO_TARGET = 0x91;
 const SCHEME_LETTER = 0x82;
 const IN_BASE = 0x100;
 const HOST_KINDS = { 1: "name", 4: "ipv4", 6: "ipv6", 7: "ipvfuture" };
@@ -722,6 +724,12 @@ class URIs {
   /** A reference with "***" in place of its password, if it has one. All else stays, byte for byte. */
   maskPassword(text) {
     return this.#written("uriparse_mask_password", [textOf(text)]);
+  }
+
+  /** The path and the query of a reference, as an HTTP request has them (RFC 9112, section 3.2.1), or null: its path begins without a "/". */
+  requestTarget(text) {
+    const bytes = this.#part("uriparse_request_target", textOf(text), NO_TARGET);
+    return bytes && this.#string(bytes);
   }
 
   /** The segments of a path: the pieces between its "/", without one before a leading "/". */

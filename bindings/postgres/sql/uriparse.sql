@@ -12,7 +12,7 @@ SELECT uri_param_values('?a=1&b&%61=R%26D&a', 'a'), uri_form_decode('a+b'), uri_
 SELECT * FROM uri_pairs('?a=1&b=%26&c');
 SELECT * FROM uri_segments('http://h/a%2Fb//');
 SELECT uri_host_is_within_any('//a.example.org', 'example.com example.org'), uri_without_default_port('HTTP://H:080/%7e'),
-  uri_mask_password('ftp://u:secret@h');
+  uri_mask_password('ftp://u:secret@h'), uri_request_target('http://h?q');
 SELECT uri_param('?q=R%26D', 'q'), uri_with_param('?p=1', 'p', 'a&b'), uri_with_appended_param('?a', 'a', NULL),
   uri_without_params('?utm_id=1&q', 'utm_*'), uri_without_param('?a*&ab', 'a*');
 SELECT uri_replace('//h', 'port', '80'), uri_encode('segment', 'a/b'), uri_decode('a%2Fb'), uri_escape('a b');

@@ -145,6 +145,7 @@ CALL(text_to_text, page_key, "page_key", "text", page_form_key, text_fault, OR_U
 CALL(text_to_text, origin, "origin", "text", uriparse_origin, text_fault, OR_URI, URIPARSE_NO_ORIGIN, 0)
 CALL(text_to_text, without_default_port, "without_default_port", "text", uriparse_without_default_port, text_fault, OR_URI, 0, 0)
 CALL(text_to_text, mask_password, "mask_password", "text", uriparse_mask_password, text_fault, OR_URI, 0, 0)
+CALL(text_to_text, request_target, "request_target", "text", uriparse_request_target, text_fault, OR_URI, URIPARSE_NO_TARGET, 0)
 CALL(text_to_text, escape, "escape", "text", uriparse_escape, text_fault, OR_URI | STRICT, 0, 0)
 CALL(text_to_text, trim_link, "trim_link", "text", uriparse_trim_link, text_fault, PLAIN, 0, URIPARSE_PATH_BYTE)
 CALL(text_to_text, decode, "decode", "text", uriparse_decode, text_query_fault, PLAIN, 0, 0)
@@ -406,6 +407,10 @@ PyMethodDef call_methods[] = {
            "mask_password($module, /, text)\n--\n\n"
            "The reference as it may be shown, with `***` in place of its password, if it has one. All else stays, byte for byte,\n"
            "also a secret in the query."),
+    METHOD("request_target", request_target,
+           "request_target($module, /, text)\n--\n\n"
+           "The target of an HTTP request for a reference (RFC 9112, section 3.2.1): its path, or `/` in place of an empty one, and\n"
+           "its query. None for a path that begins without a `/`."),
     METHOD("escape", escape,
            "escape($module, /, text)\n--\n\n"
            "A reference, made of any text, with escapes for what may not stand where it does."),

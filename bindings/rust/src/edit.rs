@@ -359,6 +359,12 @@ macro_rules! edits {
                 self.$view().without_default_port()
             }
 
+            /// The target of an HTTP request: see [`UriRef::request_target`].
+            #[must_use]
+            pub fn request_target(&self) -> Option<String> {
+                self.$view().request_target()
+            }
+
             /// The same with `***` in place of its password: see [`UriRef::mask_password`].
             #[must_use]
             pub fn mask_password(&self) -> Self {

@@ -112,6 +112,21 @@ impl UriRef<'_> {
         let text = self.as_str().as_bytes();
         written_reference(Write::Masked(text)).expect("a reference takes any password")
     }
+
+    /// The target of an HTTP request for the reference (RFC 9112, section 3.2.1): the path, or `/` in place of an empty one, and the
+    /// query. `None` if the path begins without a `/`.
+    ///
+    /// ```
+    /// use uriparse_rattle::UriRef;
+    ///
+    /// assert_eq!(UriRef::parse("http://h//a?b#c")?.request_target().as_deref(), Some("//a?b"));
+    /// assert_eq!(UriRef::parse("mailto:a")?.request_target(), None);
+    /// # Ok::<(), uriparse_rattle::Error>(())
+    /// ```
+    #[must_use]
+    pub fn request_target(&self) -> Option<String> {
+        written(Write::RequestTarget(self.as_str().as_bytes())).ok()
+    }
 }
 
 impl Uri<'_> {
@@ -131,6 +146,12 @@ impl Uri<'_> {
     #[must_use]
     pub fn without_default_port(&self) -> UriBuf {
         UriBuf(self.as_uri_ref().without_default_port())
+    }
+
+    /// The target of an HTTP request: see [`UriRef::request_target`].
+    #[must_use]
+    pub fn request_target(&self) -> Option<String> {
+        self.as_uri_ref().request_target()
     }
 
     /// The URI with `***` in place of its password: see [`UriRef::mask_password`].

@@ -219,6 +219,13 @@ extern "C" {
         room: usize,
         needed: *mut usize,
     ) -> u32;
+    fn uriparse_request_target(
+        text: *const u8,
+        len: usize,
+        out: *mut u8,
+        room: usize,
+        needed: *mut usize,
+    ) -> u32;
     fn uriparse_next_segment(path: *const u8, len: usize, at: usize, segment: *mut Span) -> bool;
     fn uriparse_next_pair(query: *const u8, len: usize, at: usize, pair: *mut Pair) -> bool;
     fn uriparse_find_pair(
@@ -604,6 +611,9 @@ pub(crate) enum Write<'a> {
     /// The text with stars for its password.
     #[cfg(feature = "alloc")]
     Masked(&'a [u8]),
+    /// The path and the query of a request.
+    #[cfg(feature = "alloc")]
+    RequestTarget(&'a [u8]),
     #[cfg(feature = "alloc")]
     Decoded(&'a [u8]),
     /// What a text of a form stands for.
@@ -690,6 +700,10 @@ impl Write<'_> {
                     uriparse_without_default_port(at, len, out, room, needed)
                 }
                 #[cfg(feature = "alloc")]
+                Self::RequestTarget(text) => {
+                    uriparse_request_target(text.as_ptr(), text.len(), out, room, needed)
+                }
+                #[cfg(feature = "alloc")]
                 Self::Masked(text) => {
                     uriparse_mask_password(text.as_ptr(), text.len(), out, room, needed)
                 }
@@ -759,6 +773,7 @@ impl Write<'_> {
             Self::Normal(text) | Self::Origin(text) => text.len() + 2,
             Self::Decoded(text) | Self::FormDecoded(text) | Self::Trimmed(text) => text.len(),
             Self::WithoutDefaultPort(text) => text.len(),
+            Self::RequestTarget(text) => text.len() + 1,
             Self::Masked(text) => text.len() + 3,
             Self::Encoded(_, text) | Self::Escaped(text) => text.len() + 16,
             Self::Key(_, text) => text.len() + 24,

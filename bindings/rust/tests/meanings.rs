@@ -206,6 +206,7 @@ fn answer_of_one(call: &str, text: &[u8]) -> Option<Result<Bytes, Error>> {
         "pairs" => read(pairs_of),
         "segments" => read(segments_of),
         "without_default_port" => read(|uri| shown(uri.without_default_port())),
+        "request_target" => read(|uri| uri.request_target().and_then(shown)),
         "mask_password" => read(|uri| shown(uri.mask_password())),
         "decode" => decode(plain()).map(Some),
         "form_decode" => form_decode(plain()).map(Some),

@@ -138,6 +138,13 @@ extern "C" {
         room: usize,
         needed: *mut usize,
     ) -> u32;
+    fn uriparse_request_target(
+        text: *const u8,
+        len: usize,
+        out: *mut u8,
+        room: usize,
+        needed: *mut usize,
+    ) -> u32;
     fn uriparse_set_pair(
         query: *const u8,
         len: usize,
@@ -336,6 +343,8 @@ fn check_reference(uri: UriRef<'_>, base: &str) {
         Ok(bytes(uri.mask_password())),
         "{text}"
     );
+    let target = uri.request_target().map(bytes);
+    assert_eq!(of_one(uriparse_request_target, text).ok(), target, "{text}");
     let joined = uri.segments().collect::<Vec<_>>().join("/");
     assert_eq!(joined, uri.path().strip_prefix('/').unwrap_or(uri.path()));
     // SAFETY: as above.

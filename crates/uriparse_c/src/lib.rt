@@ -28,7 +28,7 @@ ghost use Rattle.uriparse_reference.specs.Ports.{port_or_default};
 ghost use Rattle.uriparse_reference.specs.Offset.{first_fault};
 ghost use Rattle.uriparse_reference.specs.Reading.{fault};
 ghost use Rattle.uriparse_reference.specs.Order.{reference_cmp};
-ghost use Rattle.uriparse_reference.specs.Reference.{Parts, Spells, host_of, print};
+ghost use Rattle.uriparse_reference.specs.Reference.{Parts, Spells, host_of, is_abempty, print};
 ghost use Rattle.uriparse_reference.specs.Target.{target};
 ghost use Rattle.uriparse_reference.specs.View.{Viewed};
 ghost use Rattle.uriparse_reference.specs.declared.uri_reference.change.ChangeError.TheVariants as changes;
@@ -53,6 +53,7 @@ ghost use Rattle.uriparse_ffi.specs.Hidden.{masked_text, text_without_default_po
 ghost use Rattle.uriparse_ffi.specs.Pairs.{IsFirstNamedAt, IsNextNamedAt, IsPairAt, left_from, value_given};
 ghost use Rattle.uriparse_ffi.specs.Places.{ArePlacesOf};
 ghost use Rattle.uriparse_ffi.specs.Put.{IsPut, IsRefused, IsRelativePut};
+ghost use Rattle.uriparse_ffi.specs.Requests.{origin_form};
 ghost use Rattle.uriparse_ffi.specs.Segments.{segment_begin, segments_left};
 ghost use Rattle.uriparse_ffi.specs.Spans.{span};
 
@@ -72,6 +73,7 @@ use uriparse_ffi::origins::{write_origin, write_same_origin};
 use uriparse_ffi::pair_edits::{write_appended, write_with_pair, write_without};
 use uriparse_ffi::pairs::{UriPair, named_pair, next_named_pair, pair_at};
 use uriparse_ffi::places::{UriParts, places};
+use uriparse_ffi::requests::write_target_of_request;
 use uriparse_ffi::segments::segment_at;
 use uriparse_ffi::span::UriSpan;
 use uriparse_ffi::texts::{equal_texts, hashed, write_normal, write_relative, write_target};
@@ -461,6 +463,22 @@ pub extern "C" fn uriparse_mask_password(text: &[u8], out: &mut [u8], needed: &m
     ensures refused { (e : URIReferenceError) → fault text.now ≡ Some e → IsRefused (spec.code_of e) out.old out.new needed.new result }
 {
     write_masked(text, out, needed)
+}
+
+/// Writes the target of an HTTP request for a reference to the buffer: its path, or `/` in place of an
+/// empty one, and its query. Does not allocate.
+#[unsafe(no_mangle)]
+pub extern "C" fn uriparse_request_target(text: &[u8], out: &mut [u8], needed: &mut usize) -> u32
+    // The buffer holds the path and the query, byte for byte, or it is too small.
+    ensures written { (p : Parts) (s : Spells text.now p) → is_abempty s.path_text ≡ true → IsPut (origin_form s.path_text p.query) out.old out.new needed.new result }
+
+    // A path that neither is empty nor begins with a slash is rejected, and the buffer is kept.
+    ensures without { (p : Parts) (s : Spells text.now p) → is_abempty s.path_text ≡ false → IsRefused spec.no_target out.old out.new needed.new result }
+
+    // So is a faulty text.
+    ensures refused { (e : URIReferenceError) → fault text.now ≡ Some e → IsRefused (spec.code_of e) out.old out.new needed.new result }
+{
+    write_target_of_request(text, out, needed)
 }
 
 /// Finds the first segment that is left of a path from a place, and says where it is. Does not allocate.

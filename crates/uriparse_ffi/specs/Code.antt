@@ -81,6 +81,10 @@ no_address = 15
 abbrev pub key_flags : ℕ
 key_flags = 0x90
 
+-- the path of the reference is in no target of a request
+abbrev pub no_target : ℕ
+no_target = 0x91
+
 -- added to the code of a base's error
 abbrev pub in_base : ℕ
 in_base = 0x100

@@ -10,5 +10,6 @@ pub mod Checks
 pub mod Domains
 pub mod Hidden
 pub mod Places
+pub mod Requests
 pub mod Segments
 pub mod Spans

@@ -31,6 +31,8 @@ pub const NO_ADDRESS: u32 = 15;
 
 pub const KEY_FLAGS: u32 = 0x90;
 
+pub const NO_TARGET: u32 = 0x91;
+
 pub const IN_BASE: u32 = 0x100;
 
 fn of_username(error: UsernameError) -> u32

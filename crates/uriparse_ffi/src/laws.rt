@@ -11,6 +11,7 @@ ghost use Rattle.uriparse_ffi.specs.Code as spec;
 ghost use Rattle.uriparse_ffi.specs.Domains.{domains};
 ghost use Rattle.uriparse_ffi.specs.Hash.{hash_of};
 ghost use Rattle.uriparse_ffi.specs.Hidden.{masked_text, shown, text_without_default_port};
+ghost use Rattle.uriparse_ffi.specs.Requests.{origin_form};
 ghost use Rattle.uriparse_ffi.specs.Segments.{segment_begin, segments_left};
 
 /// Codes and errors match one to one: errors with the same code are equal, also a base's errors. No
@@ -60,4 +61,13 @@ pub fn examples_of_pieces()
     ensures same_begin { segment_begin (codes "/a") 1 ≡ 1 }
     ensures domains { domains (codes " a  b ") ≡ codes "a" ∷ codes "b" ∷ [] }
     ensures no_domain { domains (codes " ") ≡ [] }
+{}
+
+/// Targets of requests.
+pub fn examples_of_requests()
+    ensures whole { origin_form (codes "/a/b") (Some (codes "c?d")) ≡ codes "/a/b?c?d" }
+    ensures two_slashes { origin_form (codes "//a") None ≡ codes "//a" }
+    ensures empty_path { origin_form [] (Some (codes "q")) ≡ codes "/?q" }
+    ensures empty_query { origin_form (codes "/") (Some []) ≡ codes "/?" }
+    ensures nothing { origin_form [] None ≡ codes "/" }
 {}

@@ -19,6 +19,7 @@ pub mod pair_edits;
 pub mod pairs;
 pub mod places;
 pub mod put;
+pub mod requests;
 pub mod segments;
 pub mod span;
 pub mod texts;

@@ -125,7 +125,7 @@ fn scheme_of(text: &[u8]) -> Option<&[u8]>
 }
 
 /// The bytes of a query or a fragment, if it is present.
-fn bytes_of<'c, K: TextKind>(component: &'c Option<Text<'_, K>>) -> Option<&'c [u8]>
+pub(crate) fn bytes_of<'c, K: TextKind>(component: &'c Option<Text<'_, K>>) -> Option<&'c [u8]>
     ensures { option_copied result ≡ component.now }
 {
     match component {

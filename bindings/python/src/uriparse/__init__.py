@@ -30,7 +30,8 @@ from ._errors import IN_BASE, NO_ROOM, Code, Component, URIError, error_text
 from ._uriparse import (compare, decode, default_port, equal, form_decode, hash_of, host_is_within, host_is_within_any,
                         is_ambiguous, is_normalized, is_public, is_uri, is_within, key, mask_password, normal_key,
                         normalize, origin, page_key, pair, pair_values, pairs, parse, port_or_default, relativize,
-                        resolve, same_origin, segments, trim_link, with_appended_pair, with_pair, without_default_port)
+                        request_target, resolve, same_origin, segments, trim_link, with_appended_pair, with_pair,
+                        without_default_port)
 # methods.tsv: end
 
 __all__ = [
@@ -42,8 +43,8 @@ __all__ = [
 __all__ += ["compare", "decode", "default_port", "equal", "escape", "first_fault", "form_decode", "hash_of",
             "host_address", "host_flags", "host_is_within", "host_is_within_any", "is_ambiguous", "is_normalized",
             "is_public", "is_uri", "is_within", "key", "mask_password", "normal_key", "normalize", "origin", "page_key",
-            "pair", "pair_values", "pairs", "parse", "port_or_default", "relativize", "resolve", "same_origin",
-            "segments", "spans", "trim_link", "with_appended_pair", "with_pair", "without_default_port"]
+            "pair", "pair_values", "pairs", "parse", "port_or_default", "relativize", "request_target", "resolve",
+            "same_origin", "segments", "spans", "trim_link", "with_appended_pair", "with_pair", "without_default_port"]
 # methods.tsv: end
 __version__ = "0.4.0"
 if _uriparse.version != __version__:
@@ -401,6 +402,10 @@ class URI(_uriparse.Compared):
     def mask_password(self: _URI) -> _URI:
         """With `***` in place of the password, if it has one."""
         return type(self)(mask_password(self))
+
+    def request_target(self) -> Optional[str]:
+        """The path and the query, as an HTTP request has them, or None."""
+        return request_target(self)
 
     def key(self) -> str:
         """The sort key."""

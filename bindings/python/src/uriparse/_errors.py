@@ -50,6 +50,7 @@ class Code(enum.IntEnum):
     SCHEME_BYTE = 0x81
     SCHEME_LETTER = 0x82
     KEY_FLAGS = 0x90
+    NO_TARGET = 0x91
     # codes.tsv: end
 
     @classmethod
@@ -68,12 +69,12 @@ _COMPONENTS_OF_DIGITS: Dict[int, Component] = {
 # codes.tsv: components
 _COMPONENTS_OF_CODES: Dict[int, Component] = {
     Code.NO_SCHEME: "scheme", Code.COLON_IN_SEGMENT: "path", Code.TOO_MANY_SEGMENTS: "path", Code.TWO_SLASHES: "path",
-    Code.MISSING_HOST: "host", Code.BAD_NAMES: "query", Code.NO_PAIRS: "query"}
+    Code.MISSING_HOST: "host", Code.BAD_NAMES: "query", Code.NO_PAIRS: "query", Code.NO_TARGET: "path"}
 
 # The errors that no byte has: what is missing, or what is wrong of several components together.
 _UNPLACED = (Code.OUT_OF_MEMORY, Code.NO_ROOM, Code.NO_SCHEME, Code.TOO_MANY_SEGMENTS, Code.TWO_SLASHES,
              Code.NO_COMPONENT, Code.NO_ORIGIN, Code.MISSING_HOST, Code.BAD_CHANGE, Code.NO_PAIRS, Code.NO_ADDRESS,
-             Code.SCHEME_EMPTY, Code.KEY_FLAGS)
+             Code.SCHEME_EMPTY, Code.KEY_FLAGS, Code.NO_TARGET)
 # codes.tsv: end
 
 _ERROR_TEXTS = {
@@ -114,6 +115,7 @@ _ERROR_TEXTS = {
     0x81: "invalid scheme character",
     0x82: "scheme starts with non-alphabetic character",
     0x90: "no key has these flags",
+    0x91: "the path is in no target of a request",
     # codes.tsv: end
 }
 

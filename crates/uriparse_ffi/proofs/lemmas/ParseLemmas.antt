@@ -14,7 +14,7 @@ use Rattle.uriparse_reference.proofs.lemmas.reading.ReadingLemmas.{again, found,
 use Rattle.uriparse_ffi.specs.Places.{ArePlaces}
 use Rattle.uriparse_ffi.specs.declared.places.UriParts.{UriParts}
 
-cut_of : (t : List ℕ) (p : Parts) (s : Spells t p) → IsCutInto t s.scheme_text s.authority_text s.path_text p.query p.fragment
+pub cut_of : (t : List ℕ) (p : Parts) (s : Spells t p) → IsCutInto t s.scheme_text s.authority_text s.path_text p.query p.fragment
 cut_of t p s = cut_again t s.scheme_text s.authority_text s.path_text p.query p.fragment (spelled_pieces t p s) s.whole
 
 pub query_of : (t : List ℕ) (p : Parts) → reading t ≡ Ok p → query_text t ≡ p.query
