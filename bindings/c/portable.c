@@ -214,6 +214,9 @@ WRITES(escape)
 WRITES(form_decode)
 WRITES(host_address)
 WRITES(trim_link)
+WRITES(place_key)
+WRITES(domain_prefix)
+WRITES(base_prefix)
 
 uint32_t proved_encode(uint32_t component, const uint8_t *bytes, size_t len, uint8_t *out, size_t room, size_t *needed) {
   if (!enter(len, room, 0, 0)) return without_memory(needed);

@@ -23,6 +23,7 @@ mod key;
 #[cfg(feature = "alloc")]
 mod owned;
 mod pairs;
+mod place_key;
 mod reference;
 mod sort_key;
 #[allow(unsafe_code)]
@@ -39,5 +40,7 @@ pub use key::AsUriRef;
 #[cfg(feature = "alloc")]
 pub use owned::{UriBuf, UriRefBuf};
 pub use pairs::Pairs;
+#[cfg(feature = "alloc")]
+pub use place_key::domain_prefix;
 pub use reference::{HostKind, Uri, UriRef};
 pub use sort_key::KeyForm;
