@@ -118,6 +118,21 @@ uint32_t uriparse_key(uint32_t flags, uriparse_bytes text, size_t len, uriparse_
   return proved_key(flags, text_of(text, len), len, room_of(out, room), room, needed);
 }
 
+uint32_t proved_place_key(const uint8_t *text, size_t len, uint8_t *out, size_t room, size_t *needed);
+uint32_t uriparse_place_key(uriparse_bytes text, size_t len, uriparse_buffer out, size_t room, size_t *needed) {
+  return proved_place_key(text_of(text, len), len, room_of(out, room), room, needed);
+}
+
+uint32_t proved_domain_prefix(const uint8_t *domain, size_t len, uint8_t *out, size_t room, size_t *needed);
+uint32_t uriparse_domain_prefix(uriparse_bytes domain, size_t len, uriparse_buffer out, size_t room, size_t *needed) {
+  return proved_domain_prefix(text_of(domain, len), len, room_of(out, room), room, needed);
+}
+
+uint32_t proved_base_prefix(const uint8_t *base, size_t len, uint8_t *out, size_t room, size_t *needed);
+uint32_t uriparse_base_prefix(uriparse_bytes base, size_t len, uriparse_buffer out, size_t room, size_t *needed) {
+  return proved_base_prefix(text_of(base, len), len, room_of(out, room), room, needed);
+}
+
 uint32_t proved_normalize(const uint8_t *text, size_t len, uint8_t *out, size_t room, size_t *needed);
 uint32_t uriparse_normalize(uriparse_bytes text, size_t len, uriparse_buffer out, size_t room, size_t *needed) {
   return proved_normalize(text_of(text, len), len, room_of(out, room), room, needed);

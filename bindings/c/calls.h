@@ -5,22 +5,22 @@
 #include <string.h>
 
 /* calls.tsv: names */
-enum { CALLS = 39 };
+enum { CALLS = 42 };
 
 static const char *const names[CALLS] = {"parse", "first_fault", "is_uri", "equal", "compare", "same_origin",
                                          "is_normalized", "is_within", "host_is_within", "host_is_within_any",
                                          "host_flags", "disagreement", "is_public", "is_ambiguous", "port_or_default",
-                                         "host_address", "default_port", "hash", "key", "normalize", "resolve",
-                                         "relativize", "origin", "change", "without_default_port", "mask_password",
-                                         "request_target", "next_segment", "next_pair", "find_pair", "find_next_pair",
-                                         "set_pair", "append_pair", "drop_pairs", "decode", "form_decode", "encode",
-                                         "escape", "trim_link"};
+                                         "host_address", "default_port", "hash", "key", "place_key", "domain_prefix",
+                                         "base_prefix", "normalize", "resolve", "relativize", "origin", "change",
+                                         "without_default_port", "mask_password", "request_target", "next_segment",
+                                         "next_pair", "find_pair", "find_next_pair", "set_pair", "append_pair",
+                                         "drop_pairs", "decode", "form_decode", "encode", "escape", "trim_link"};
 
 /* Whether a call reads the base. */
 static const bool reads_base[CALLS] = {false, false, false, true, true, true, false, true, true, true, false, false,
-                                       false, false, false, false, false, false, false, false, true, true, false, true,
-                                       false, false, false, false, false, true, true, true, true, true, false, false,
-                                       false, false, false};
+                                       false, false, false, false, false, false, false, false, false, false, false,
+                                       true, true, false, true, false, false, false, false, false, true, true, true,
+                                       true, true, false, false, false, false, false};
 /* calls.tsv: end */
 
 /* What a call writes. */
@@ -64,27 +64,30 @@ static uint32_t call(int which, const char *base, size_t base_len, const char *t
   case 16: return uriparse_default_port(text, len);
   case 17: return uriparse_hash(text, len, &to->hash);
   case 18: return uriparse_key(URIPARSE_KEY_PAGE, text, len, to->out, ROOM, &to->needed);
-  case 19: return uriparse_normalize(text, len, to->out, ROOM, &to->needed);
-  case 20: return uriparse_resolve(base, base_len, text, len, to->out, ROOM, &to->needed);
-  case 21: return uriparse_relativize(base, base_len, text, len, to->out, ROOM, &to->needed);
-  case 22: return uriparse_origin(text, len, to->out, ROOM, &to->needed);
-  case 23: return uriparse_change(text, len, &changes, base, base_len, to->out, ROOM, &to->needed);
-  case 24: return uriparse_without_default_port(text, len, to->out, ROOM, &to->needed);
-  case 25: return uriparse_mask_password(text, len, to->out, ROOM, &to->needed);
-  case 26: return uriparse_request_target(text, len, to->out, ROOM, &to->needed);
-  case 27: return uriparse_next_segment(text, len, len / 2, &to->pair.name) ? URIPARSE_OK : URIPARSE_NO_ROOM;
-  case 28: return uriparse_next_pair(text, len, len / 2, &to->pair) ? URIPARSE_OK : URIPARSE_NO_ROOM;
-  case 29: return uriparse_find_pair(text, len, base, base_len, &to->pair) ? URIPARSE_OK : URIPARSE_NO_ROOM;
-  case 30: return uriparse_find_next_pair(text, len, len / 2, base, base_len,
+  case 19: return uriparse_place_key(text, len, to->out, ROOM, &to->needed);
+  case 20: return uriparse_domain_prefix(text, len, to->out, ROOM, &to->needed);
+  case 21: return uriparse_base_prefix(text, len, to->out, ROOM, &to->needed);
+  case 22: return uriparse_normalize(text, len, to->out, ROOM, &to->needed);
+  case 23: return uriparse_resolve(base, base_len, text, len, to->out, ROOM, &to->needed);
+  case 24: return uriparse_relativize(base, base_len, text, len, to->out, ROOM, &to->needed);
+  case 25: return uriparse_origin(text, len, to->out, ROOM, &to->needed);
+  case 26: return uriparse_change(text, len, &changes, base, base_len, to->out, ROOM, &to->needed);
+  case 27: return uriparse_without_default_port(text, len, to->out, ROOM, &to->needed);
+  case 28: return uriparse_mask_password(text, len, to->out, ROOM, &to->needed);
+  case 29: return uriparse_request_target(text, len, to->out, ROOM, &to->needed);
+  case 30: return uriparse_next_segment(text, len, len / 2, &to->pair.name) ? URIPARSE_OK : URIPARSE_NO_ROOM;
+  case 31: return uriparse_next_pair(text, len, len / 2, &to->pair) ? URIPARSE_OK : URIPARSE_NO_ROOM;
+  case 32: return uriparse_find_pair(text, len, base, base_len, &to->pair) ? URIPARSE_OK : URIPARSE_NO_ROOM;
+  case 33: return uriparse_find_next_pair(text, len, len / 2, base, base_len,
                                           &to->pair) ? URIPARSE_OK : URIPARSE_NO_ROOM;
-  case 31: return uriparse_set_pair(text, len, base, base_len, text, len, true, to->out, ROOM, &to->needed);
-  case 32: return uriparse_append_pair(text, len, base, base_len, text, len, true, to->out, ROOM, &to->needed);
-  case 33: return uriparse_drop_pairs(text, len, base, base_len, to->out, ROOM, &to->needed);
-  case 34: return uriparse_decode(text, len, to->out, ROOM, &to->needed);
-  case 35: return uriparse_form_decode(text, len, to->out, ROOM, &to->needed);
-  case 36: return uriparse_encode(URIPARSE_SEGMENT, text, len, to->out, ROOM, &to->needed);
-  case 37: return uriparse_escape(text, len, to->out, ROOM, &to->needed);
-  case 38: return uriparse_trim_link(text, len, to->out, ROOM, &to->needed);
+  case 34: return uriparse_set_pair(text, len, base, base_len, text, len, true, to->out, ROOM, &to->needed);
+  case 35: return uriparse_append_pair(text, len, base, base_len, text, len, true, to->out, ROOM, &to->needed);
+  case 36: return uriparse_drop_pairs(text, len, base, base_len, to->out, ROOM, &to->needed);
+  case 37: return uriparse_decode(text, len, to->out, ROOM, &to->needed);
+  case 38: return uriparse_form_decode(text, len, to->out, ROOM, &to->needed);
+  case 39: return uriparse_encode(URIPARSE_SEGMENT, text, len, to->out, ROOM, &to->needed);
+  case 40: return uriparse_escape(text, len, to->out, ROOM, &to->needed);
+  case 41: return uriparse_trim_link(text, len, to->out, ROOM, &to->needed);
   /* calls.tsv: end */
   default: abort();
   }

@@ -101,6 +101,49 @@ static void keys_are_ordered(void) {
   check(order_of_keys(URIPARSE_KEY_PAGE, "HTTP://h:80/.#a", "http://h/#b") == 0, "key", "page");
 }
 
+static uint32_t place_key(const char *text, size_t len, uint8_t *out, size_t room, size_t *needed) {
+  return uriparse_place_key(text, len, out, room, needed);
+}
+
+static uint32_t domain_prefix(const char *text, size_t len, uint8_t *out, size_t room, size_t *needed) {
+  return uriparse_domain_prefix(text, len, out, room, needed);
+}
+
+static uint32_t base_prefix(const char *text, size_t len, uint8_t *out, size_t room, size_t *needed) {
+  return uriparse_base_prefix(text, len, out, room, needed);
+}
+
+/* The key of a URI begins with the prefix of a domain exactly if its host is within that, and with the prefix of a base if it is below
+ * that. */
+static void prefixes_are_of_keys(void) {
+  static const char *const hosts[] = {"example.com", "www.example.com.", "EXAMPLE.com", "evilexample.com", "com", "a..com", "%61.com", "a%2F.com",
+                                      "1.2.3.4", "%31.2.3.4", "4", "[::1]", "[v1.a]", ""};
+  static const char *const paths[] = {"", "/", "/a", "/a/", "/a/b?c", "/a/../b#d", "/a/%2e", "/a//../b", "/a;/..;/b"};
+  uint8_t key[128], prefix[128];
+  size_t len, prefix_len;
+  char text[64], other[64];
+  bool within;
+  for (size_t i = 0; i < sizeof hosts / sizeof *hosts; i++) {
+    for (size_t j = 0; j < sizeof hosts / sizeof *hosts; j++) {
+      snprintf(text, sizeof text, "s://%s/", hosts[i]);
+      check(uriparse_place_key(text, strlen(text), key, sizeof key, &len) == URIPARSE_OK, "place_key", text);
+      check(uriparse_domain_prefix(hosts[j], strlen(hosts[j]), prefix, sizeof prefix, &prefix_len) == URIPARSE_OK, "domain_prefix", hosts[j]);
+      check(uriparse_host_is_within(text, strlen(text), hosts[j], strlen(hosts[j]), &within) == URIPARSE_OK, "host_is_within", text);
+      check(within == (len >= prefix_len && memcmp(key, prefix, prefix_len) == 0), "a domain's prefix", text);
+    }
+  }
+  for (size_t i = 0; i < sizeof paths / sizeof *paths; i++) {
+    for (size_t j = 0; j < sizeof paths / sizeof *paths; j++) {
+      snprintf(text, sizeof text, "http://h%s", paths[i]);
+      snprintf(other, sizeof other, "HTTP://H:80%s", paths[j]);
+      check(uriparse_place_key(text, strlen(text), key, sizeof key, &len) == URIPARSE_OK, "place_key", text);
+      check(uriparse_base_prefix(other, strlen(other), prefix, sizeof prefix, &prefix_len) == URIPARSE_OK, "base_prefix", other);
+      check(uriparse_is_within(text, strlen(text), other, strlen(other), &within) == URIPARSE_OK, "is_within", text);
+      check(!within || (len >= prefix_len && memcmp(key, prefix, prefix_len) == 0), "a base's prefix", text);
+    }
+  }
+}
+
 static uint32_t host_address(const char *text, size_t len, uint8_t *out, size_t room, size_t *needed) {
   return uriparse_host_address(text, len, out, room, needed);
 }
@@ -506,6 +549,13 @@ int main(void) {
   check(uriparse_key(8, "a b", 3, out, sizeof out, &needed) == URIPARSE_KEY_FLAGS && needed == 0, "key rejects", "flags");
   check(uriparse_error_component(URIPARSE_KEY_FLAGS) == 0, "error_component", "KEY_FLAGS");
   keys_are_ordered();
+  writes(place_key, "place_key", "s://a.b:1/c", 11, "p\2" "1b\1a\1\2\2" "00001\1\1\2s\1/c\1\1\1", 24);
+  check(place_key("a", 1, out, sizeof out, &needed) == URIPARSE_NO_SCHEME && needed == 0, "place_key rejects", "a");
+  writes(domain_prefix, "domain_prefix", "A.b.", 4, "p\2" "1b\1a\1", 7);
+  check(domain_prefix("h:1", 3, out, sizeof out, &needed) == URIPARSE_HOST_BYTE && needed == 0, "domain_prefix rejects", "h:1");
+  writes(base_prefix, "base_prefix", "s:/c/d?e", 8, "p\1\2s\1/c/", 8);
+  check(base_prefix("//h", 3, out, sizeof out, &needed) == URIPARSE_NO_SCHEME && needed == 0, "base_prefix rejects", "//h");
+  prefixes_are_of_keys();
   writes(trim_link, "trim_link", " <URL: http://h/\t>\n", 19, "http://h/", 9);
   writes(trim_link, "trim_link", "\377[ ", 3, "\377[", 2);
   writes(trim_link, "trim_link", "\0 ", 2, "", 1);
@@ -518,6 +568,9 @@ int main(void) {
   check(uriparse_host_address(NULL, 0, NULL, 0, &needed) == URIPARSE_NO_ADDRESS && needed == 0, "host_address", "NULL");
   check(uriparse_form_decode(NULL, 0, NULL, 0, &needed) == URIPARSE_OK && needed == 0, "form_decode", "NULL");
   check(uriparse_key(0, NULL, 0, NULL, 0, &needed) == URIPARSE_NO_ROOM && needed == 6, "key", "NULL");
+  check(uriparse_place_key(NULL, 0, NULL, 0, &needed) == URIPARSE_NO_SCHEME && needed == 0, "place_key", "NULL");
+  check(uriparse_domain_prefix(NULL, 0, NULL, 0, &needed) == URIPARSE_NO_ROOM && needed == 4, "domain_prefix", "NULL");
+  check(uriparse_base_prefix(NULL, 0, NULL, 0, &needed) == URIPARSE_NO_SCHEME && needed == 0, "base_prefix", "NULL");
   check(uriparse_trim_link(NULL, 0, NULL, 0, &needed) == URIPARSE_OK && needed == 0, "trim_link", "NULL");
   within = true;
   check(uriparse_compare(NULL, 0, NULL, 0, &order) == URIPARSE_OK && order == 0, "compare", "NULL");

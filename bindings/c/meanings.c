@@ -244,6 +244,13 @@ static void writes(const char *call, struct field text, struct field other) {
   } else if (strcmp(call, "key") == 0 || strcmp(call, "page_key") == 0) {
     code = uriparse_key(strcmp(call, "key") == 0 ? 0 : URIPARSE_KEY_PAGE, text.at, text.len, out, ROOM, &len);
     if (code != URIPARSE_OK) rejects_text(code, 1, text);
+  } else if (strcmp(call, "place_key") == 0 || strcmp(call, "base_prefix") == 0) {
+    code = strcmp(call, "place_key") == 0 ? uriparse_place_key(text.at, text.len, out, ROOM, &len)
+                                          : uriparse_base_prefix(text.at, text.len, out, ROOM, &len);
+    if (code != URIPARSE_OK) rejects_text(code, 1, text);
+  } else if (strcmp(call, "domain_prefix") == 0) {
+    code = uriparse_domain_prefix(text.at, text.len, out, ROOM, &len);
+    if (code != URIPARSE_OK) rejects(code, 1, place_in_value(code, text));
   } else if (strcmp(call, "encode") == 0) {
     static const char *const names[] = {"", "username", "password", "", "", "segment", "query", "fragment", "", "pair"};
     uint32_t component = 0;
@@ -350,7 +357,7 @@ static void answer(const struct meaning *row) {
   static const char *const of_pairs[] = {"pairs", "pair", "pair_values", "with_pair", "with_appended_pair", "without_pairs", "without_pair", NULL};
   static const char *const with_part[] = {"origin", "host_address", "without_default_port", "mask_password", "request_target", NULL};
   static const char *const decoding[] = {"decode", "form_decode", NULL};
-  static const char *const writing[] = {"resolve", "relativize", "encode", "trim_link", "key", "page_key", NULL};
+  static const char *const writing[] = {"resolve", "relativize", "encode", "trim_link", "key", "page_key", "place_key", "domain_prefix", "base_prefix", NULL};
   static const char *const with_number[] = {"host_flags", "disagreement", "port_or_default", "is_normalized", "is_public", "hash", NULL};
   static const char *const comparing[] = {"compare", "equal", "same_origin", "is_within", "host_is_within", NULL};
   const struct field text = row->values[0], other = row->values[1];

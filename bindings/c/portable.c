@@ -231,6 +231,9 @@ WRITES(trim_link)
 WRITES(without_default_port)
 WRITES(mask_password)
 WRITES(request_target)
+WRITES(place_key)
+WRITES(domain_prefix)
+WRITES(base_prefix)
 
 uint32_t proved_encode(uint32_t component, const uint8_t *bytes, size_t len, uint8_t *out, size_t room, size_t *needed) {
   if (!enter(len, room, 0, 0)) return without_memory(needed);

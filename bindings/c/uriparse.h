@@ -362,6 +362,22 @@ uint32_t uriparse_hash(uriparse_bytes text, size_t len, uint64_t *hash);
 uint32_t uriparse_key(uint32_t flags, uriparse_bytes text, size_t len, uriparse_buffer out, size_t room,
                       size_t *needed);
 
+/* Writes to `out` the place key of a URI, as `uriparse_normalize` writes a text: bytes from 0x01 to 0x7E that begin with the host, from
+ * its last label on, so that the URIs within a domain, and those below another URI, are a range of keys. Two URIs have the same key exactly
+ * if their normal forms are equal, with the ports that they use. Returns URIPARSE_NO_SCHEME for a relative reference. A key is no
+ * reference, and nothing reads it back. Its layout is frozen: docs/KEYS.md. */
+uint32_t uriparse_place_key(uriparse_bytes text, size_t len, uriparse_buffer out, size_t room, size_t *needed);
+
+/* Writes to `out` what the place keys of all URIs within a domain begin with, and those of no other: `uriparse_host_is_within` says
+ * which these are. The successor of the prefix is the same bytes with the last one greater by one; the keys that begin with the prefix are
+ * those that aren't less than it, and less than its successor. The error of a domain is that of a host. */
+uint32_t uriparse_domain_prefix(uriparse_bytes domain, size_t len, uriparse_buffer out, size_t room, size_t *needed);
+
+/* Writes to `out` what the place keys of all URIs below a base begin with: `uriparse_is_within` says which these are. The keys of some
+ * other URIs begin with it too: those for which that call is false only because readers disagree on a segment. The successor is that of
+ * `uriparse_domain_prefix`. Returns URIPARSE_NO_SCHEME for a relative reference. */
+uint32_t uriparse_base_prefix(uriparse_bytes base, size_t len, uriparse_buffer out, size_t room, size_t *needed);
+
 /* Writes to `out` the text of a reference's normal form (section 6.2.2: case, percent-encoding, dot segments), and to
  * `*needed` its length. If `room` is less, returns URIPARSE_NO_ROOM, and `out` is unchanged. No zero byte follows the
  * text; what follows it in `out` is unchanged.

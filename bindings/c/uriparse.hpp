@@ -341,6 +341,23 @@ inline std::string key(input text, std::uint32_t flags = 0) {
   return detail::write(call, text);
 }
 
+// The place key of a URI, which begins with the host from its last label on, and what the keys of all URIs below a base begin with.
+inline std::string place_key(input text) { return detail::write(uriparse_place_key, text); }
+inline std::string base_prefix(input base) { return detail::write(uriparse_base_prefix, base); }
+
+// What the place keys of all URIs within a domain begin with.
+inline std::string domain_prefix(input domain) {
+  std::string out;
+  if (const auto code = detail::fill(out, uriparse_domain_prefix, domain)) throw error(code, detail::place_in(URIPARSE_HOST, domain), 0);
+  return out;
+}
+
+// The least string above all that begin with such a prefix, which isn't empty.
+inline std::string prefix_successor(std::string prefix) {
+  ++prefix.back();
+  return prefix;
+}
+
 inline std::string encode(uriparse_component component, input bytes) {
   std::string out;
   const auto call = [component](auto... arguments) { return uriparse_encode(component, arguments...); };

@@ -11,7 +11,7 @@ CREATE TABLE words AS SELECT n FROM (VALUES ('a'), ('%61'), (''), ('*'), ('a&b')
 CREATE TABLE results AS SELECT uri_valid(x), uri_is_uri(x), uri_fault(x), uri_fault_text(x), uri_scheme(x), uri_authority(x), uri_username(x), uri_password(x),
   uri_host(x), uri_port(x), uri_path(x), uri_query(x), uri_fragment(x), uri_normalize(x), uri_hash(x), uri_origin(x), uri_escape(x),
   uri_host_kind(x), uri_host_flags(x), uri_disagreement(x), uri_default_port(x), uri_decode(x), uri_decode_bytes(x), uri_form_decode(x), uri_trim_link(x),
-  uri_is_normalized(x), uri_is_public(x), uri_is_ambiguous(x), uri_key(x), uri_normal_key(x), uri_page_key(x), uri_host_inet(x), uri_port_or_default(x), uri_without_default_port(x), uri_mask_password(x), uri_request_target(x), uri_or_null(x) AS value FROM inputs;
+  uri_is_normalized(x), uri_is_public(x), uri_is_ambiguous(x), uri_key(x), uri_normal_key(x), uri_page_key(x), uri_place_key(x), uri_domain_prefix(x), uri_base_prefix(x), uri_host_inet(x), uri_port_or_default(x), uri_without_default_port(x), uri_mask_password(x), uri_request_target(x), uri_or_null(x) AS value FROM inputs;
 
 SELECT count(uri_resolve(a.x, b.x)), count(uri_relativize(a.x, b.x)), count(uri_equal(a.x, b.x)), sum(uri_compare(a.x, b.x)),
   count(uri_is_within(a.x, b.x)), count(uri_host_is_within(a.x, b.x)), count(uri_host_is_within_any(a.x, b.x)), count(uri_same_origin(a.x, b.x)) FROM inputs a, inputs b;

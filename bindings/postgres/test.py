@@ -158,6 +158,9 @@ def test_rows(database: str) -> str:
         ("uri_same_origin('a b', 's:')", None), ("uri_is_normalized('http://h/')", "t"), ("uri_is_normalized(uri 'http://h')", "f"),
         ("uri_key('//h') = E'1\\x01\\x02\\x01\\x011h\\x01\\x01/\\x01\\x01\\x01'", "t"), ("uri_page_key(uri '//h/./#f') = uri_key('//H')", "t"),
         ("uri_normal_key('//%31.2.3.4') = uri_normal_key('//1.2.3.4')", "f"), ("uri_key('a b')", None),
+        ("uri_place_key('http://a.b/c') = E'p\\x021b\\x01a\\x01\\x02\\x0200080\\x01\\x01\\x02http\\x01/c\\x01\\x01\\x01'", "t"),
+        ("uri_place_key(uri '/c')", None), ("uri_domain_prefix('h:1')", None), ("uri_base_prefix(uri 's:/c/d') = E'p\\x01\\x02s\\x01/c/'", "t"),
+        ("starts_with(uri_place_key(uri 'http://www.a.b/c'), uri_domain_prefix('A.b.'))", "t"),
         ('uri_key(\'//h:9\') COLLATE "C" < uri_key(uri \'//h:10\')', "t"),
         ("uri_is_normalized('a b')", None), ("uri_is_public('http://example.com')", "t"), ("uri_is_public(uri '//[::ffff:10.0.0.1]')", "f"),
         ("uri_is_public('a')", "f"), ("uri_is_public('a b')", None), ("uri_is_ambiguous('..;a')", "t"), ("uri_is_ambiguous('a/b')", None),
@@ -576,6 +579,12 @@ def test_order() -> str:
     assert len(joined) == 1, joined
     plan = str(psql("ascii", "SET enable_seqscan = off", "EXPLAIN SELECT * FROM random WHERE uri_normalize(x) = 's:'")[0])
     assert "by_normal" in plan, plan
+    psql("ascii", 'CREATE INDEX by_place ON random (uri_place_key(x) COLLATE "C")')
+    in_range = 'FROM random WHERE uri_place_key(x) COLLATE "C" >= %s AND uri_place_key(x) COLLATE "C" < %s || chr(127)' % (("uri_domain_prefix('h')",) * 2)
+    plan = str(psql("ascii", "SET enable_seqscan = off", "EXPLAIN SELECT * " + in_range)[0])
+    assert "by_place" in plan, plan
+    within = psql("ascii", "SELECT count(*) FROM random WHERE uri_is_uri(x) AND uri_host_is_within(x, 'h')")[0]
+    assert psql("ascii", "SET enable_seqscan = off", "SELECT count(*) " + in_range)[0] == within, within
     return "order: %d pairs, %d of them level; three kinds of joins agree" % (pairs, level)
 
 

@@ -174,6 +174,25 @@ write_page_key(const struct bytes *texts, char *out, size_t room, size_t *needed
 	return uriparse_key(URIPARSE_KEY_PAGE, texts[0].at, texts[0].len, out, room, needed);
 }
 
+/* The place key of a URI, and what those within a domain and those below a base begin with. */
+static uint32_t
+write_place_key(const struct bytes *texts, char *out, size_t room, size_t *needed)
+{
+	return uriparse_place_key(texts[0].at, texts[0].len, out, room, needed);
+}
+
+static uint32_t
+write_domain_prefix(const struct bytes *texts, char *out, size_t room, size_t *needed)
+{
+	return uriparse_domain_prefix(texts[0].at, texts[0].len, out, room, needed);
+}
+
+static uint32_t
+write_base_prefix(const struct bytes *texts, char *out, size_t room, size_t *needed)
+{
+	return uriparse_base_prefix(texts[0].at, texts[0].len, out, room, needed);
+}
+
 static uint32_t
 write_target(const struct bytes *texts, char *out, size_t room, size_t *needed)
 {
@@ -303,6 +322,27 @@ Datum
 uri_page_key(PG_FUNCTION_ARGS)
 {
 	return written(fcinfo, write_page_key);
+}
+
+PG_FUNCTION_INFO_V1(uri_place_key);
+Datum
+uri_place_key(PG_FUNCTION_ARGS)
+{
+	return written(fcinfo, write_place_key);
+}
+
+PG_FUNCTION_INFO_V1(uri_domain_prefix);
+Datum
+uri_domain_prefix(PG_FUNCTION_ARGS)
+{
+	return written(fcinfo, write_domain_prefix);
+}
+
+PG_FUNCTION_INFO_V1(uri_base_prefix);
+Datum
+uri_base_prefix(PG_FUNCTION_ARGS)
+{
+	return written(fcinfo, write_base_prefix);
 }
 
 PG_FUNCTION_INFO_V1(uri_resolve);

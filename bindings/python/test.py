@@ -199,7 +199,8 @@ def test_wrong_types() -> None:
     single: List[Callable[..., object]] = [
         uriparse.parse, uriparse.spans, uriparse.first_fault, uriparse.is_uri, uriparse.hash_of, uriparse.normalize,
         uriparse.origin, uriparse.pairs, uriparse.decode, uriparse.form_decode, uriparse.escape, uriparse.trim_link, uriparse.is_normalized,
-        uriparse.key, uriparse.normal_key, uriparse.page_key, uriparse.is_public, uriparse.segments, uriparse.without_default_port, uriparse.mask_password, uriparse.request_target,
+        uriparse.key, uriparse.normal_key, uriparse.page_key, uriparse.place_key, uriparse.domain_prefix, uriparse.base_prefix,
+        uriparse.is_public, uriparse.segments, uriparse.without_default_port, uriparse.mask_password, uriparse.request_target,
         uriparse.is_ambiguous, uriparse.port_or_default, uriparse.host_address, lambda data: uriparse.encode("query", data)]
     for call in single:
         for other, name in ((None, "None"), (5, "int"), ([97], "list"), (memoryview(b"abcd").cast("I"), "memoryview")):
@@ -445,6 +446,14 @@ def test_checks() -> None:
     many_keys: List[Optional[str]] = uriparse.key_many(["a/../b#c", "a b"], "page")
     assert many_keys == [uriparse.key("b"), None] and uriparse.key_many([b"a"], errors="raise") == [uriparse.key(b"a")]
     assert type(raised(uriparse.key_many, ["a"], "other")) is ValueError
+    place = "p\2" "1com\1example\1\2\00200080\1\1\2http\1/a\1\1\1"
+    assert uriparse.place_key("HTTP://Example.com/a") == place == uriparse.URI("http://example.com/./a").place_key()
+    assert uriparse.place_key_many([b"HTTP://Example.com/a", b"a"]) == [place.encode(), None]
+    assert uriparse.place_key_many(["HTTP://Example.com/a"], "raise") == [place]
+    for prefix in (uriparse.domain_prefix("com"), uriparse.domain_prefix(b"EXAMPLE.com.").decode(), uriparse.URI("http://example.com/b").base_prefix()):
+        assert place.startswith(prefix) and prefix <= place < uriparse.prefix_successor(prefix)
+        assert uriparse.prefix_successor(prefix.encode()) == uriparse.prefix_successor(prefix).encode()
+    assert uriparse.base_prefix(b"mailto:a@b") == b"p\1\2mailto\1a@b\1" and not place.startswith(uriparse.domain_prefix("ample.com"))
     for text, public in (("http://example.com/", True), ("//10.0.0.1", False), ("//[64:ff9b::808:808]", True), ("//[::ffff:7f00:1]", False), ("a", False)):
         assert uriparse.is_public(text) is public is uriparse.URI(text).is_public() is uriparse.is_public(text.encode())
     for left, right, same in (("HTTPS://u@H:443/a", "https://h/b", True), ("http://h", "https://h", False), ("file:///a", "file:///a", False)):
@@ -462,6 +471,7 @@ def test_checks() -> None:
         (uriparse.compare, ("a", "a b"), "right", 0x51, 1), (uriparse.is_within, ("/a", "%"), "uri", 3, 0),
         (uriparse.is_within, ("s:", "%"), "base", 0x152, 0), (uriparse.is_within, ("a b", "%"), "uri", 0x51, 1),
         (uriparse.is_within, ("s:", "a"), "base", 0x103, 0),
+        (uriparse.place_key, ("a",), "text", 3, 0), (uriparse.domain_prefix, ("h:1",), "domain", 0x31, 1), (uriparse.base_prefix, ("s:a b",), "base", 0x51, 3),
         (uriparse.host_is_within, ("a b", "["), "text", 0x51, 1), (uriparse.host_flags, ("a b",), "text", 0x51, 1)]
     for call, arguments, argument, code, place in faults:
         error = raised(call, *arguments)

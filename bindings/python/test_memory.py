@@ -41,6 +41,7 @@ CALLS = [
     lambda: uriparse.host_flags("//%31.2.3.4"), lambda: uriparse.disagreement(LONG), lambda: uriparse.default_port("https"), lambda: uriparse.port_or_default(LONG),
     lambda: str(uriparse.host_address("//[::1]")), lambda: uriparse.host_address(URI), lambda: uriparse.is_normalized(LONG), lambda: uriparse.is_public(LONG),
     lambda: uriparse.key(LONG), lambda: uriparse.normal_key(LONG.encode()), lambda: uriparse.page_key(URI), lambda: uriparse.key_many([LONG, "a b"], "page"),
+    lambda: uriparse.place_key(LONG), lambda: uriparse.place_key_many([LONG, "a"]), lambda: uriparse.domain_prefix(b"h"), lambda: uriparse.base_prefix(LONG),
     lambda: uriparse.is_ambiguous("..;a"), lambda: uriparse.same_origin(LONG, URI), lambda: uriparse.trim_link(" <URL:" + LONG + ">"),
     lambda: uriparse.form_decode("%c3%a9+" * 1000), lambda: uriparse.pair_values(LONG, "a"), lambda: uriparse.pair_values(b"s:", b"a"),
     lambda: uriparse.segments(LONG), lambda: uriparse.segments(b"/a%2fb"), lambda: uriparse.without_default_port(LONG), lambda: uriparse.mask_password(URI),

@@ -43,6 +43,7 @@ CALLS: Dict[str, Tuple[Callable[..., Any], Tuple[str, ...]]] = {
     "default_port": (uriparse.default_port, ("scheme",)), "origin": (uriparse.origin, ("text",)), "normalize": (uriparse.normalize, ("text",)),
     "port_or_default": (uriparse.port_or_default, ("text",)), "host_address": (host_address, ("text",)), "hash": (uriparse.hash_of, ("text",)),
     "key": (uriparse.key, ("text",)), "page_key": (uriparse.page_key, ("text",)),
+    "place_key": (uriparse.place_key, ("text",)), "domain_prefix": (uriparse.domain_prefix, ("domain",)), "base_prefix": (uriparse.base_prefix, ("base",)),
     "is_normalized": (uriparse.is_normalized, ("text",)), "is_public": (uriparse.is_public, ("text",)), "is_ambiguous": (uriparse.is_ambiguous, ("segment",)),
     "same_origin": (uriparse.same_origin, ("left", "right")), "trim_link": (uriparse.trim_link, ("text",)),
     "form_decode": (uriparse.form_decode, ("text",)), "pair_values": (pair_values, ("text", "name")),

@@ -150,11 +150,12 @@ SQL_CALLS = {"check": "uri_valid", "is_uri": "uri_is_uri", "port_number": "uri_p
              "port_or_default": "uri_port_or_default", "host_address": "uri_host_address", "pair_values": "uri_param_values",
              "form_decode": "uri_form_decode", "trim_link": "uri_trim_link", "key": "uri_key", "page_key": "uri_page_key",
              "segments": "uri_segments", "without_default_port": "uri_without_default_port", "mask_password": "uri_mask_password", "request_target": "uri_request_target",
-             "host_is_within_any": "uri_host_is_within_any"}
+             "host_is_within_any": "uri_host_is_within_any",
+             "place_key": "uri_place_key", "domain_prefix": "uri_domain_prefix", "base_prefix": "uri_base_prefix"}
 NO_SQL_CALLS = {"port", "drop_pairs"}
 BOOLEAN_CALLS = {"check", "is_uri", "host_is_within", "host_is_within_any", "is_within", "equal", "same_origin", "is_normalized", "is_public", "is_ambiguous"}
 # The calls whose first argument is no reference.
-CALLS_OF_DATA = {"decode", "form_decode", "is_ambiguous"}
+CALLS_OF_DATA = {"decode", "form_decode", "is_ambiguous", "domain_prefix"}
 
 
 class Meaning(NamedTuple):

@@ -205,6 +205,9 @@ def test_changes(db: sqlite3.Connection) -> int:
             ("uri_is_normalized('http://h/')", 1), ("uri_is_normalized('http://h')", 0), ("uri_is_normalized('a b')", None), ("uri_is_public('http://example.com')", 1), ("uri_is_public('//10.0.0.1')", 0),
             ("uri_is_public('a b')", None), ("uri_is_public(NULL)", None),
             ("uri_key('//h')", "1\1\2\1\0011h\1\1/\1\1\1"), ("uri_page_key('//h/./#f')", "1\1\2\1\0011h\1\1/\1\1\1"), ("uri_normal_key('//%31.2.3.4') = uri_normal_key('//1.2.3.4')", 0),
+            ("uri_place_key('http://a.b/c')", "p\2" "1b\1a\1\2\00200080\1\1\2http\1/c\1\1\1"), ("uri_place_key('/c')", None), ("uri_place_key(NULL)", None),
+            ("uri_domain_prefix('A.b.')", "p\2" "1b\1a\1"), ("uri_domain_prefix('h:1')", None), ("uri_base_prefix('s:/c/d')", "p\1\2s\1/c/"),
+            ("uri_place_key('http://www.a.b/c') BETWEEN uri_domain_prefix('a.b') AND uri_domain_prefix('a.b') || char(127)", 1),
             ("uri_key('a b')", None), ("uri_key(NULL)", None), ("uri_key('//h:9') < uri_key('//h:10')", 1),
             ("uri_is_ambiguous('..;a')", 1), ("uri_is_ambiguous('..')", 0), ("uri_is_ambiguous('a/b')", None), ("uri_is_ambiguous(NULL)", None),
             ("uri_fault_text('a b')", "invalid path character"), ("uri_fault_text('a')", None), ("uri_fault_text(NULL)", None),
@@ -473,6 +476,17 @@ def test_indexes(db: sqlite3.Connection) -> None:
     assert one(db, "integrity_check FROM pragma_integrity_check") == "ok"
     plan = str(db.execute("EXPLAIN QUERY PLAN SELECT * FROM random WHERE uri_normalize(text) = 's:'").fetchall())
     assert "by_normal" in plan, plan
+    # The URIs within a domain, and below a base, are a range of place keys.
+    db.execute("CREATE INDEX by_place ON random (uri_place_key(text))")
+    in_range = "FROM random WHERE uri_place_key(text) >= {0} AND uri_place_key(text) < {0} || char(127)"
+    plan = str(db.execute("EXPLAIN QUERY PLAN SELECT * " + in_range.format("uri_domain_prefix('h')")).fetchall())
+    assert "by_place" in plan, plan
+    for host in ("h", "H.", "a.b", "1.2.3.4", "[::1]", ""):
+        assert one(db, "count(*) " + in_range.format("uri_domain_prefix(?1)"), host) == one(
+            db, "count(*) FROM random NOT INDEXED WHERE uri_is_uri(text) AND uri_host_is_within(text, ?1)", host), host
+    for base in ("http://h/", "s:", "s:/", "http://h/a/", "a://h"):
+        assert one(db, "count(*) " + in_range.format("uri_base_prefix(?1)") + " AND uri_is_within(text, ?1)", base) == one(
+            db, "count(*) FROM random NOT INDEXED WHERE uri_is_within(text, ?1)", base), base
     for text, in db.execute("SELECT text FROM random WHERE uri_valid(text) LIMIT 20").fetchall():
         other = alike(random.Random(4), text)
         assert one(db, "count(*) FROM random WHERE text = ? COLLATE URI", other) == one(

@@ -274,6 +274,19 @@ static uint32_t write_page_key(const struct text *texts, char *out, size_t room,
   return uriparse_key(URIPARSE_KEY_PAGE, texts[0].at, texts[0].len, out, room, needed);
 }
 
+/* The place key of a URI, and what those within a domain and those below a base begin with. */
+static uint32_t write_place_key(const struct text *texts, char *out, size_t room, size_t *needed) {
+  return uriparse_place_key(texts[0].at, texts[0].len, out, room, needed);
+}
+
+static uint32_t write_domain_prefix(const struct text *texts, char *out, size_t room, size_t *needed) {
+  return uriparse_domain_prefix(texts[0].at, texts[0].len, out, room, needed);
+}
+
+static uint32_t write_base_prefix(const struct text *texts, char *out, size_t room, size_t *needed) {
+  return uriparse_base_prefix(texts[0].at, texts[0].len, out, room, needed);
+}
+
 static uint32_t write_target(const struct text *texts, char *out, size_t room, size_t *needed) {
   return uriparse_resolve(texts[0].at, texts[0].len, texts[1].at, texts[1].len, out, room, needed);
 }
@@ -339,6 +352,18 @@ static void normal_key(sqlite3_context *context, int count, sqlite3_value **valu
 
 static void page_key(sqlite3_context *context, int count, sqlite3_value **values) {
   result_written(context, count, values, write_page_key);
+}
+
+static void place_key(sqlite3_context *context, int count, sqlite3_value **values) {
+  result_written(context, count, values, write_place_key);
+}
+
+static void domain_prefix(sqlite3_context *context, int count, sqlite3_value **values) {
+  result_written(context, count, values, write_domain_prefix);
+}
+
+static void base_prefix(sqlite3_context *context, int count, sqlite3_value **values) {
+  result_written(context, count, values, write_base_prefix);
 }
 
 static void resolve(sqlite3_context *context, int count, sqlite3_value **values) {
@@ -881,6 +906,7 @@ static const struct {
   {"uri_host_is_within_any", 2, host_is_within_any, NULL}, {"uri_without_default_port", 1, without_default_port, NULL},
   {"uri_mask_password", 1, mask_password, NULL}, {"uri_request_target", 1, request_target, NULL},
   {"uri_is_public", 1, is_public, NULL},   {"uri_normal_key", 1, normal_key, NULL}, {"uri_page_key", 1, page_key, NULL},
+  {"uri_place_key", 1, place_key, NULL},   {"uri_domain_prefix", 1, domain_prefix, NULL}, {"uri_base_prefix", 1, base_prefix, NULL},
 };
 
 __attribute__((visibility("default")))

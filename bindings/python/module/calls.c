@@ -142,6 +142,9 @@ CALL(text_to_text, normalize, "normalize", "text", uriparse_normalize, text_faul
 CALL(text_to_text, key, "key", "text", exact_key, text_fault, OR_URI, 0, 0)
 CALL(text_to_text, normal_key, "normal_key", "text", normal_form_key, text_fault, OR_URI, 0, 0)
 CALL(text_to_text, page_key, "page_key", "text", page_form_key, text_fault, OR_URI, 0, 0)
+CALL(text_to_text, place_key, "place_key", "text", uriparse_place_key, text_fault, OR_URI, 0, 0)
+CALL(text_to_text, domain_prefix, "domain_prefix", "domain", uriparse_domain_prefix, text_host_fault, PLAIN, 0, 0)
+CALL(text_to_text, base_prefix, "base_prefix", "base", uriparse_base_prefix, text_fault, OR_URI, 0, 0)
 CALL(text_to_text, origin, "origin", "text", uriparse_origin, text_fault, OR_URI, URIPARSE_NO_ORIGIN, 0)
 CALL(text_to_text, without_default_port, "without_default_port", "text", uriparse_without_default_port, text_fault, OR_URI, 0, 0)
 CALL(text_to_text, mask_password, "mask_password", "text", uriparse_mask_password, text_fault, OR_URI, 0, 0)
@@ -407,6 +410,17 @@ PyMethodDef call_methods[] = {
     METHOD("page_key", page_key,
            "page_key($module, /, text)\n--\n\n"
            "The sort key of the page that a reference leads to: of its normal form without a default port and a fragment."),
+    METHOD("place_key", place_key,
+           "place_key($module, /, text)\n--\n\n"
+           "The place key of a URI, which begins with the host from its last label on: characters from U+0001 to U+007E. The keys of\n"
+           "the URIs within a domain, and of those below another URI, are a range."),
+    METHOD("domain_prefix", domain_prefix,
+           "domain_prefix($module, /, domain)\n--\n\n"
+           "What the place keys of all URIs within a domain begin with, and those of no other, as `host_is_within` says."),
+    METHOD("base_prefix", base_prefix,
+           "base_prefix($module, /, base)\n--\n\n"
+           "What the place keys of all URIs below a base begin with. Ask `is_within` too of what it finds: that is False where\n"
+           "readers disagree on a segment."),
     METHOD("origin", origin,
            "origin($module, /, text)\n--\n\n"
            "The origin of a URI: its scheme, its host and, unless that is the default one, its port. It is None for a URI without a\n"

@@ -213,15 +213,15 @@ static PyObject *escape_many(PyObject *module, PyObject *const *args, Py_ssize_t
   return write_all(batch, uriparse_escape, NULL, NULL);
 }
 
-/* The keys of the form with this number: 0 of the reference as it is, 1 of the normal form, 2 of the page. */
+/* The keys of the form with this number: 0 of the reference as it is, 1 of the normal form, 2 of the page; and with 3 the place keys. */
 static PyObject *key_many(PyObject *module, PyObject *const *args, Py_ssize_t count, PyObject *kwnames) {
   static const char *const names[] = {"form", "texts", "is_raising"};
-  static write_call *const keys[] = {exact_key, normal_form_key, page_form_key};
+  static write_call *const keys[] = {exact_key, normal_form_key, page_form_key, uriparse_place_key};
   PyObject *sources[3];
   if (!take_arguments("key_many", names, 3, args, count, kwnames, sources)) return NULL;
   size_t form = PyLong_AsSize_t(sources[0]);
   if (PyErr_Occurred()) return NULL;
-  if (form > 2) {
+  if (form > 3) {
     PyErr_SetString(PyExc_ValueError, "no form has this number");
     return NULL;
   }

@@ -69,6 +69,7 @@ size_t text_fault(const uint8_t *bytes, size_t len);
 /* The same of a text that is all of a component other than a scheme. If memory is missing, an exception is set. */
 size_t text_component_fault(enum uriparse_component component, const uint8_t *bytes, size_t len);
 size_t text_query_fault(const uint8_t *bytes, size_t len);
+size_t text_host_fault(const uint8_t *bytes, size_t len);
 /* That of a path may have slashes, and this one of a segment none. */
 size_t text_segment_fault(const uint8_t *bytes, size_t len);
 

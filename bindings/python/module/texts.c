@@ -200,6 +200,8 @@ size_t text_segment_fault(const uint8_t *bytes, size_t len) {
   return fault_in(&frame, strlen(frame.before), bytes, len);
 }
 
+size_t text_host_fault(const uint8_t *bytes, size_t len) { return text_component_fault(URIPARSE_HOST, bytes, len); }
+
 size_t text_query_fault(const uint8_t *bytes, size_t len) { return text_component_fault(URIPARSE_QUERY, bytes, len); }
 
 PyObject *reject(const struct state *state, uint32_t code, const struct text *text, size_t place, const char *argument) {

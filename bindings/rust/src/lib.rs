@@ -23,6 +23,7 @@ mod key;
 #[cfg(feature = "alloc")]
 mod owned;
 mod pairs;
+mod place_key;
 mod reference;
 #[cfg(feature = "serde")]
 mod serde;
@@ -41,5 +42,7 @@ pub use key::AsUriRef;
 #[cfg(feature = "alloc")]
 pub use owned::{UriBuf, UriRefBuf};
 pub use pairs::{Pairs, Segments};
+#[cfg(feature = "alloc")]
+pub use place_key::domain_prefix;
 pub use reference::{HostKind, Uri, UriRef};
 pub use sort_key::KeyForm;

@@ -164,6 +164,27 @@ extern "C" {
         room: usize,
         needed: *mut usize,
     ) -> u32;
+    fn uriparse_place_key(
+        text: *const u8,
+        len: usize,
+        out: *mut u8,
+        room: usize,
+        needed: *mut usize,
+    ) -> u32;
+    fn uriparse_domain_prefix(
+        domain: *const u8,
+        len: usize,
+        out: *mut u8,
+        room: usize,
+        needed: *mut usize,
+    ) -> u32;
+    fn uriparse_base_prefix(
+        base: *const u8,
+        len: usize,
+        out: *mut u8,
+        room: usize,
+        needed: *mut usize,
+    ) -> u32;
     fn uriparse_normalize(
         text: *const u8,
         len: usize,
@@ -605,6 +626,11 @@ pub(crate) enum Write<'a> {
     Normal(&'a [u8]),
     /// The sort key of the form with these flags.
     Key(u32, &'a [u8]),
+    PlaceKey(&'a [u8]),
+    #[cfg(feature = "alloc")]
+    DomainPrefix(&'a [u8]),
+    #[cfg(feature = "alloc")]
+    BasePrefix(&'a [u8]),
     /// The target of the second against the first.
     Target(&'a [u8], &'a [u8]),
     /// What leads from the first to the second.
@@ -664,6 +690,17 @@ impl Write<'_> {
                 }
                 Self::Key(flags, text) => {
                     uriparse_key(flags, text.as_ptr(), text.len(), out, room, needed)
+                }
+                Self::PlaceKey(text) => {
+                    uriparse_place_key(text.as_ptr(), text.len(), out, room, needed)
+                }
+                #[cfg(feature = "alloc")]
+                Self::DomainPrefix(text) => {
+                    uriparse_domain_prefix(text.as_ptr(), text.len(), out, room, needed)
+                }
+                #[cfg(feature = "alloc")]
+                Self::BasePrefix(text) => {
+                    uriparse_base_prefix(text.as_ptr(), text.len(), out, room, needed)
                 }
                 Self::Target(base, text) => {
                     let (base, base_len) = (base.as_ptr(), base.len());
@@ -785,7 +822,10 @@ impl Write<'_> {
             Self::RequestTarget(text) => text.len() + 1,
             Self::Masked(text) => text.len() + 3,
             Self::Encoded(_, text) | Self::Escaped(text) => text.len() + 16,
-            Self::Key(_, text) => text.len() + 24,
+            Self::Key(_, text)
+            | Self::PlaceKey(text)
+            | Self::DomainPrefix(text)
+            | Self::BasePrefix(text) => text.len() + 24,
             Self::Target(base, text) | Self::Relative(base, text) => base.len() + text.len() + 2,
             Self::Changed(text, _, values) => text.len() + values.len() + 8,
             Self::WithPair(pair) => pair.query.len() + pair.name.len() + 16,

@@ -6,9 +6,9 @@ use std::hash::{Hash, Hasher};
 use std::net::IpAddr;
 use std::path::Path;
 use uriparse_rattle::{
-    Disagreement,
-    decode, default_port, encode, form_decode, is_ambiguous, trim_link, Change, Changes, Component,
-    Encoding, Error, ErrorKind, HostKind, KeyForm, Uri, UriRef, UriRefBuf,
+    decode, default_port, domain_prefix, encode, form_decode, is_ambiguous, trim_link, Change,
+    Changes, Component, Disagreement, Encoding, Error, ErrorKind, HostKind, KeyForm, Uri, UriRef,
+    UriRefBuf,
 };
 
 /// The codes of `uriparse.h`, as the rows name them.
@@ -220,6 +220,9 @@ fn answer_of_one(call: &str, text: &[u8]) -> Option<Result<Bytes, Error>> {
         "trim_link" => Ok(shown(trim_link(plain()))),
         "key" => read(|uri| shown(uri.key(KeyForm::EXACT))),
         "page_key" => read(|uri| shown(uri.key(KeyForm::PAGE))),
+        "place_key" => Uri::try_from(text).map(|uri| shown(uri.place_key())),
+        "domain_prefix" => domain_prefix(plain()).map(shown),
+        "base_prefix" => Uri::try_from(text).map(|uri| shown(uri.base_prefix())),
         _ => return None,
     })
 }

@@ -3,8 +3,8 @@
 use std::convert::TryFrom;
 use std::net::IpAddr;
 use uriparse_rattle::{
-    decode, encode, escape, form_decode, is_ambiguous, trim_link, Change, Changes, Encoding, Error,
-    KeyForm, Uri, UriRef,
+    decode, domain_prefix, encode, escape, form_decode, is_ambiguous, trim_link, Change, Changes,
+    Encoding, Error, KeyForm, Uri, UriRef,
 };
 
 type OfOne = unsafe extern "C" fn(*const u8, usize, *mut u8, usize, *mut usize) -> u32;
@@ -88,6 +88,27 @@ extern "C" {
     fn uriparse_key(
         flags: u32,
         text: *const u8,
+        len: usize,
+        out: *mut u8,
+        room: usize,
+        needed: *mut usize,
+    ) -> u32;
+    fn uriparse_place_key(
+        text: *const u8,
+        len: usize,
+        out: *mut u8,
+        room: usize,
+        needed: *mut usize,
+    ) -> u32;
+    fn uriparse_domain_prefix(
+        domain: *const u8,
+        len: usize,
+        out: *mut u8,
+        room: usize,
+        needed: *mut usize,
+    ) -> u32;
+    fn uriparse_base_prefix(
+        base: *const u8,
         len: usize,
         out: *mut u8,
         room: usize,
@@ -327,6 +348,12 @@ fn check_reference(uri: UriRef<'_>, base: &str) {
         let mut out = [0; 2_000];
         assert!(text.len() > 1_000 || uri.key_into(form, &mut out) == Ok(&*uri.key(form)));
     }
+    let place = Uri::try_from(text).map(|uri| bytes(uri.place_key()));
+    assert_eq!(of_one(uriparse_place_key, text), place.map_err(code));
+    let prefix = Uri::try_from(text).map(|uri| bytes(uri.base_prefix()));
+    assert_eq!(of_one(uriparse_base_prefix, text), prefix.map_err(code));
+    let domain = domain_prefix(base).map(bytes).map_err(code);
+    assert_eq!(of_one(uriparse_domain_prefix, base), domain, "{base}");
     // SAFETY: each text is valid for its length.
     let within = asked(|out| unsafe { uriparse_host_is_within(a, text.len(), b, base.len(), out) });
     assert_eq!(within, uri.host_is_within(base).map_err(code), "{text}");

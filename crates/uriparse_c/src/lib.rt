@@ -34,6 +34,7 @@ ghost use Rattle.uriparse_reference.specs.View.{Viewed};
 ghost use Rattle.uriparse_reference.specs.declared.uri_reference.change.ChangeError.TheVariants as changes;
 ghost use Rattle.uriparse.specs.declared.uri.origin.Origin.{Origin};
 ghost use Rattle.uriparse.specs.Origin.{have_same_origin, origin, text as origin_text};
+ghost use Rattle.uriparse.specs.PlaceKey.{base_prefix, domain_prefix, place_key};
 ghost use Rattle.uriparse.specs.SortKey.{in_form, sort_key};
 ghost use Rattle.uriparse.specs.declared.sort_key.KeyForm.{KeyForm};
 ghost use Rattle.uriparse.specs.Within.{IsWithin};
@@ -73,6 +74,7 @@ use uriparse_ffi::keys::write_key;
 use uriparse_ffi::origins::{write_origin, write_same_origin};
 use uriparse_ffi::pair_edits::{write_appended, write_with_pair, write_without};
 use uriparse_ffi::pairs::{UriPair, named_pair, next_named_pair, pair_at};
+use uriparse_ffi::place_keys::{write_base_prefix, write_domain_prefix, write_place_key};
 use uriparse_ffi::places::{UriParts, places};
 use uriparse_ffi::readers::reasons as reasons_of_text;
 use uriparse_ffi::requests::write_target_of_request;
@@ -370,6 +372,44 @@ pub extern "C" fn uriparse_key(flags: u32, text: &[u8], out: &mut [u8], needed: 
     ensures unknown { form_of flags ≡ None → IsRefused spec.key_flags out.old out.new needed.new result }
 {
     write_key(flags, text, out, needed)
+}
+
+/// Writes the place key of a URI to the buffer. Does not allocate.
+#[unsafe(no_mangle)]
+pub extern "C" fn uriparse_place_key(text: &[u8], out: &mut [u8], needed: &mut usize) -> u32
+    // For a URI the buffer holds the place key, or it is too small.
+    ensures written { (p : Parts) → Spells text.now p → is_some p.scheme ≡ true → IsPut (place_key p) out.old out.new needed.new result }
+
+    // A text that spells no URI is rejected, and the buffer is kept.
+    ensures relative { (p : Parts) → Spells text.now p → is_some p.scheme ≡ false → IsRefused spec.no_scheme out.old out.new needed.new result }
+    ensures refused { (e : URIReferenceError) → fault text.now ≡ Some e → IsRefused (spec.fault_code e) out.old out.new needed.new result }
+{
+    write_place_key(text, out, needed)
+}
+
+/// Writes what the place keys of all URIs within a domain begin with to the buffer. Does not allocate.
+#[unsafe(no_mangle)]
+pub extern "C" fn uriparse_domain_prefix(domain: &[u8], out: &mut [u8], needed: &mut usize) -> u32
+    // For a host the buffer holds the prefix, or it is too small.
+    ensures written { (d : Host) → hosts.reading domain.now ≡ Ok d → IsPut (domain_prefix d) out.old out.new needed.new result }
+
+    // A domain that is no host is rejected, and the buffer is kept.
+    ensures refused { (e : HostError) → hosts.reading domain.now ≡ Err e → IsRefused (spec.host_code e) out.old out.new needed.new result }
+{
+    write_domain_prefix(domain, out, needed)
+}
+
+/// Writes what the place keys of all URIs below a base begin with to the buffer. Does not allocate.
+#[unsafe(no_mangle)]
+pub extern "C" fn uriparse_base_prefix(base: &[u8], out: &mut [u8], needed: &mut usize) -> u32
+    // For a URI the buffer holds the prefix, or it is too small.
+    ensures written { (b : Parts) → Spells base.now b → is_some b.scheme ≡ true → IsPut (base_prefix b) out.old out.new needed.new result }
+
+    // A text that spells no URI is rejected, and the buffer is kept.
+    ensures relative { (b : Parts) → Spells base.now b → is_some b.scheme ≡ false → IsRefused spec.no_scheme out.old out.new needed.new result }
+    ensures refused { (e : URIReferenceError) → fault base.now ≡ Some e → IsRefused (spec.fault_code e) out.old out.new needed.new result }
+{
+    write_base_prefix(base, out, needed)
 }
 
 /// Resolves a reference against a base, and writes the text of the target to the buffer. Does not

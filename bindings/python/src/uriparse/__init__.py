@@ -27,25 +27,26 @@ except ImportError as _error:
 
 from ._errors import IN_BASE, NO_ROOM, Code, Component, URIError, error_text
 # methods.tsv: imports
-from ._uriparse import (compare, decode, default_port, equal, form_decode, hash_of, host_is_within, host_is_within_any,
-                        is_ambiguous, is_normalized, is_public, is_uri, is_within, key, mask_password, normal_key,
-                        normalize, origin, page_key, pair, pair_values, pairs, parse, port_or_default, relativize,
-                        request_target, resolve, same_origin, segments, trim_link, with_appended_pair, with_pair,
-                        without_default_port)
+from ._uriparse import (base_prefix, compare, decode, default_port, domain_prefix, equal, form_decode, hash_of,
+                        host_is_within, host_is_within_any, is_ambiguous, is_normalized, is_public, is_uri, is_within,
+                        key, mask_password, normal_key, normalize, origin, page_key, pair, pair_values, pairs, parse,
+                        place_key, port_or_default, relativize, request_target, resolve, same_origin, segments,
+                        trim_link, with_appended_pair, with_pair, without_default_port)
 # methods.tsv: end
 
 __all__ = [
     "COMPONENTS", "ENCODED", "IN_BASE", "NO_ROOM", "URI", "Buffer", "Code", "Component", "Components", "Disagreement",
     "Encodable", "HostFlag", "HostKind", "Parts", "Span", "Text", "URIError", "encode", "error_text", "escape_many",
     "get_many", "host_is_within_many", "is_within_many", "key_many", "normalize_many", "pair_many", "parse_many",
-    "relativize_many", "replace", "resolve_many", "without_pair", "without_pairs", "without_pairs_many"]
+    "place_key_many", "prefix_successor", "relativize_many", "replace", "resolve_many", "without_pair",
+    "without_pairs", "without_pairs_many"]
 # methods.tsv: names
-__all__ += ["compare", "decode", "default_port", "disagreement", "equal", "escape", "first_fault", "form_decode",
-            "hash_of", "host_address", "host_flags", "host_is_within", "host_is_within_any", "is_ambiguous",
-            "is_normalized", "is_public", "is_uri", "is_within", "key", "mask_password", "normal_key", "normalize",
-            "origin", "page_key", "pair", "pair_values", "pairs", "parse", "port_or_default", "relativize",
-            "request_target", "resolve", "same_origin", "segments", "spans", "trim_link", "with_appended_pair",
-            "with_pair", "without_default_port"]
+__all__ += ["base_prefix", "compare", "decode", "default_port", "disagreement", "domain_prefix", "equal", "escape",
+            "first_fault", "form_decode", "hash_of", "host_address", "host_flags", "host_is_within",
+            "host_is_within_any", "is_ambiguous", "is_normalized", "is_public", "is_uri", "is_within", "key",
+            "mask_password", "normal_key", "normalize", "origin", "page_key", "pair", "pair_values", "pairs", "parse",
+            "place_key", "port_or_default", "relativize", "request_target", "resolve", "same_origin", "segments",
+            "spans", "trim_link", "with_appended_pair", "with_pair", "without_default_port"]
 # methods.tsv: end
 __version__ = "0.4.0"
 if _uriparse.version != __version__:
@@ -443,6 +444,14 @@ class URI(_uriparse.Compared):
         """The sort key of the page that it leads to."""
         return page_key(self)
 
+    def place_key(self) -> str:
+        """The place key, which begins with the host from its last label on."""
+        return place_key(self)
+
+    def base_prefix(self) -> str:
+        """What the place keys of all URIs below this base begin with."""
+        return base_prefix(self)
+
     def resolve(self: _URI, reference: Union[str, URI]) -> _URI:
         """The target of a reference against this base."""
         return type(self)(resolve(self, reference))
@@ -492,6 +501,39 @@ def key_many(texts: Iterable[Union[Text, URI]], form: str = "exact", errors: str
     if form not in _FORMS:
         raise ValueError("no form %r: it is one of exact, normal, page" % form)
     return _uriparse.key_many(_FORMS[form], texts, _is_raising(errors))
+
+
+_PLACE = 3
+
+
+@overload
+def place_key_many(texts: Iterable[Buffer], errors: Literal["none"] = "none") -> List[Optional[bytes]]: ...
+@overload
+def place_key_many(texts: Iterable[Buffer], errors: Literal["raise"]) -> List[bytes]: ...
+@overload
+def place_key_many(texts: Iterable[Union[str, URI]], errors: Literal["none"] = "none") -> List[Optional[str]]: ...
+@overload
+def place_key_many(texts: Iterable[Union[str, URI]], errors: Literal["raise"]) -> List[str]: ...
+def place_key_many(texts: Iterable[Union[Text, URI]], errors: str = "none") -> List[Any]:
+    """The place key of each text, as `place_key` makes it, or None for one that is rejected; with errors="raise" the first of these
+    raises its URIError."""
+    return _uriparse.key_many(_PLACE, texts, _is_raising(errors))
+
+
+@overload
+def prefix_successor(prefix: bytes) -> bytes: ...
+@overload
+def prefix_successor(prefix: str) -> str: ...
+def prefix_successor(prefix: Union[str, bytes]) -> Union[str, bytes]:
+    """The least string above all that begin with a prefix that `domain_prefix` or `base_prefix` returns: its last character is the next
+    one."""
+    if not isinstance(prefix, (str, bytes)):
+        raise TypeError("a str or bytes expected, not %s" % type(prefix).__name__)
+    if not prefix:
+        raise ValueError("an empty prefix has no successor")
+    if isinstance(prefix, str):
+        return prefix[:-1] + chr(ord(prefix[-1]) + 1)
+    return prefix[:-1] + bytes((prefix[-1] + 1,))
 
 
 @overload
