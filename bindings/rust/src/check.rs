@@ -198,7 +198,9 @@ macro_rules! checks {
             #[must_use]
             pub fn disagreement(&self) -> Option<$crate::Disagreement> {
                 let reasons = $crate::sys::disagreement(self.as_str().as_bytes());
-                $crate::Disagreement::ALL.into_iter().find(|reason| reasons & *reason as u32 != 0)
+                $crate::Disagreement::ALL
+                    .into_iter()
+                    .find(|reason| reasons & *reason as u32 != 0)
             }
 
             /// Whether the host is a name whose canonical spelling is that of an IPv4 address, as `%31.2.3.4`.

@@ -88,7 +88,9 @@ fn flags_of(uri: UriRef<'_>) -> Bytes {
 }
 
 fn disagreement_of(uri: UriRef<'_>) -> Bytes {
-    let reasons = Disagreement::ALL.into_iter().filter(|reason| uri.disagrees(*reason));
+    let reasons = Disagreement::ALL
+        .into_iter()
+        .filter(|reason| uri.disagrees(*reason));
     shown(reasons.map(|reason| reason as u32).sum::<u32>())
 }
 

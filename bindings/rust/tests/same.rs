@@ -382,7 +382,9 @@ fn check_reference(uri: UriRef<'_>, base: &str) {
     assert_eq!(flags, Ok(sum), "{text}");
     // SAFETY: as above.
     let reasons = asked(|out| unsafe { uriparse_disagreement(a, text.len(), out) });
-    let own = uriparse_rattle::Disagreement::ALL.into_iter().filter(|reason| uri.disagrees(*reason));
+    let own = uriparse_rattle::Disagreement::ALL
+        .into_iter()
+        .filter(|reason| uri.disagrees(*reason));
     assert_eq!(reasons, Ok(own.map(|reason| reason as u32).sum()), "{text}");
     // SAFETY: as above.
     let normalized = asked(|out| unsafe { uriparse_is_normalized(a, text.len(), out) });
