@@ -25,9 +25,9 @@ ghost use Rattle.uriparse.specs.declared.uri.error.URIError.TheVariants as error
 use std::alloc::{AllocError, Global};
 use uriparse::file::{FileError, from_path, to_path};
 use uriparse::{
-    BufferError, Disagreement, Host, KeyForm, Origin, Query, ReferenceView, URI, URIBuilder, URIError,
-    URIReference, URIView, base_prefix_into, domain_prefix_into, place_key_into, sort_key_into,
-    sort_key_to_string,
+    BufferError, Disagreement, Host, KeyForm, Origin, Query, ReferenceView, URI, URIBuilder,
+    URIError, URIReference, URIView, base_prefix_into, domain_prefix_into, place_key_into,
+    sort_key_into, sort_key_to_string,
 };
 
 /// Reads a URI. A fault, or that there is no scheme, is returned whatever memory there is, and a path
