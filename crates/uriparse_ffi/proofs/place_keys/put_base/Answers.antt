@@ -1,4 +1,4 @@
-use Rattle.std.proofs.Common.{◌≡◌, ap, cond, length, rules, subst, sym, true, ◌∙◌}
+use Rattle.std.proofs.Common.{◌≡◌, ap, cond, length, rules, subst, true, ◌∙◌}
 use Rattle.std.specs.Bool.{beq}
 use Rattle.std.specs.Prelude.{Result, Ok, Err}
 use Rattle.uriparse.specs.PlaceKey.{base_prefix}

@@ -1,6 +1,6 @@
 use Rattle.std.proofs.Common.{ap, subst}
 use Rattle.uriparse.specs.Uri.{map_error}
-use Rattle.uriparse.specs.PlaceKey.{base_prefix, place_key}
+use Rattle.uriparse.specs.PlaceKey.{place_key}
 use Rattle.uriparse.specs.declared.uri.error.URIError.TheVariants.{NotURI}
 use Rattle.uriparse_reference.specs.View.{Viewed}
 use Rattle.uriparse_ffi.specs.Put.{IsPut}
