@@ -446,14 +446,14 @@ def test_checks() -> None:
     many_keys: List[Optional[str]] = uriparse.key_many(["a/../b#c", "a b"], "page")
     assert many_keys == [uriparse.key("b"), None] and uriparse.key_many([b"a"], errors="raise") == [uriparse.key(b"a")]
     assert type(raised(uriparse.key_many, ["a"], "other")) is ValueError
-    place = "p\2" "1com\1example\1\2\00200080\1\1\2http\1/a\1\1\1"
-    assert uriparse.place_key("HTTP://Example.com/a") == place == uriparse.URI("http://example.com/./a").place_key()
-    assert uriparse.place_key_many([b"HTTP://Example.com/a", b"a"]) == [place.encode(), None]
-    assert uriparse.place_key_many(["HTTP://Example.com/a"], "raise") == [place]
+    shown = "p\2" "1com\1example\1\2\00200080\1\1\2http\1/a\1\1\1"
+    assert uriparse.place_key("HTTP://Example.com/a") == shown == uriparse.URI("http://example.com/./a").place_key()
+    assert uriparse.place_key_many([b"HTTP://Example.com/a", b"a"]) == [shown.encode(), None]
+    assert uriparse.place_key_many(["HTTP://Example.com/a"], "raise") == [shown]
     for prefix in (uriparse.domain_prefix("com"), uriparse.domain_prefix(b"EXAMPLE.com.").decode(), uriparse.URI("http://example.com/b").base_prefix()):
-        assert place.startswith(prefix) and prefix <= place < uriparse.prefix_successor(prefix)
+        assert shown.startswith(prefix) and prefix <= shown < uriparse.prefix_successor(prefix)
         assert uriparse.prefix_successor(prefix.encode()) == uriparse.prefix_successor(prefix).encode()
-    assert uriparse.base_prefix(b"mailto:a@b") == b"p\1\2mailto\1a@b\1" and not place.startswith(uriparse.domain_prefix("ample.com"))
+    assert uriparse.base_prefix(b"mailto:a@b") == b"p\1\2mailto\1a@b\1" and not shown.startswith(uriparse.domain_prefix("ample.com"))
     for text, public in (("http://example.com/", True), ("//10.0.0.1", False), ("//[64:ff9b::808:808]", True), ("//[::ffff:7f00:1]", False), ("a", False)):
         assert uriparse.is_public(text) is public is uriparse.URI(text).is_public() is uriparse.is_public(text.encode())
     for left, right, same in (("HTTPS://u@H:443/a", "https://h/b", True), ("http://h", "https://h", False), ("file:///a", "file:///a", False)):
