@@ -70,7 +70,7 @@ function row(number, base, text) {
     row: number, text, base, parse: result(() => parts(text)), is_uri: uris.isURI(text), equal: result(() => uris.equal(base, text)),
     hash: result(() => String(uris.hash(text))), first_fault: fault && [fault.code, fault.place], normalize: result(() => uris.normalize(text)),
     decode: result(() => hex(uris.decode(text))), form_decode: result(() => hex(uris.formDecode(text))), escape: uris.escape(text),
-    is_public: result(() => uris.isPublic(text)), key: result(() => uris.key(text, "page")), trim_link: uris.trimLink(text), same_origin: result(() => uris.sameOrigin(base, text)), is_normalized: result(() => uris.isNormalized(text)),
+    is_public: result(() => uris.isPublic(text)), key: result(() => uris.key(text, "page")), place_key: result(() => uris.placeKey(text)), domain_prefix: result(() => uris.domainPrefix(text)), base_prefix: result(() => uris.basePrefix(text)), trim_link: uris.trimLink(text), same_origin: result(() => uris.sameOrigin(base, text)), is_normalized: result(() => uris.isNormalized(text)),
     is_ambiguous: result(() => uris.isAmbiguous(text)), port_or_default: result(() => String(uris.portOrDefault(text) ?? -1)),
     host_address: result(() => { const address = uris.hostAddress(text); return address ? hex(address) : NO_ADDRESS; }),
     origin: result(() => uris.origin(text) ?? NO_ORIGIN), relativize: result(() => uris.relativize(base, text)),

@@ -158,10 +158,18 @@ await test("sort keys", () => {
   assert.notEqual(uris.key("//%31.2.3.4/", "normal"), uris.key("//1.2.3.4/", "normal"));
   assert.throws(() => uris.key("a", "other"), TypeError);
 });
+await test("place keys", () => {
+  const key = uris.placeKey("HTTP://www.Example.com/app/x");
+  for (const prefix of [uris.domainPrefix("com"), uris.domainPrefix("EXAMPLE.com."), uris.basePrefix("http://www.example.com:80/app/")]) {
+    assert.ok(key.startsWith(prefix));
+  }
+  assert.ok(!key.startsWith(uris.domainPrefix("ample.com")) && !key.startsWith(uris.basePrefix("http://www.example.com/ap/")));
+  assert.throws(() => uris.placeKey("a"), { name: "URIParseError", code: 3, component: "scheme" });
+});
 await test("a value that is no text", () => {
   for (const value of [undefined, null, 1, true, ["a"], {}, Symbol("a")]) {
     for (const name of ["parse", "fault", "isURI", "hash", "normalize", "origin", "escape", "decode", "formDecode", "trimLink", "isNormalized", "isPublic",
-      "key", "isAmbiguous", "portOrDefault", "hostAddress", ...(value === null ? [] : ["pairs"])]) {
+      "key", "placeKey", "domainPrefix", "basePrefix", "isAmbiguous", "portOrDefault", "hostAddress", ...(value === null ? [] : ["pairs"])]) {
       assert.throws(() => uris[name](value), TypeError, name);
     }
     assert.throws(() => uris.pair("s:", value), TypeError);
@@ -367,6 +375,7 @@ const SHARED = {
   port_or_default: [uris.portOrDefault, "text"], host_address: [(text) => spelled(uris.hostAddress(text)), "text"], hash: [uris.hash, "text"],
   pair_values: [listedValues, "text"], form_decode: [(text) => spelled(uris.formDecode(text)), "text"], trim_link: [uris.trimLink, "text"],
   encode: [uris.encode], key: [(text) => uris.key(text), "text"], page_key: [(text) => uris.key(text, "page"), "text"],
+  place_key: [uris.placeKey, "text"], domain_prefix: [uris.domainPrefix, "domain"], base_prefix: [uris.basePrefix, "text"],
   replace: [(text, name, value) => uris.replace(text, { [name]: value }), "text"],
 };
 // No call has a query that is no reference's, and a value that isn't UTF-8 is no string.

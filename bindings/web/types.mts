@@ -25,7 +25,7 @@ async function told(text: string): Promise<string> {
   const address: Uint8Array | null = uris.hostAddress(text);
   const used: number | null = uris.portOrDefault(text);
   const is: boolean[] = [uris.sameOrigin(text, text), uris.isNormalized(uris.trimLink(text)), uris.isPublic(text), uris.isAmbiguous("a")];
-  const keys: string = uris.key(text) + uris.key(text, "normal") + uris.key(text, "page");
+  const keys: string = uris.key(text) + uris.key(text, "normal") + uris.key(text, "page") + uris.placeKey(text) + uris.domainPrefix("h") + uris.basePrefix(text);
   const spelled: Uint8Array = uris.formDecode("a+b");
   const value: string | null = uris.pair(text, new Uint8Array([97]));
   const edited: string = uris.withoutPair(uris.withoutPairs(uris.withAppendedPair(uris.withPair(text, "a", 1), "b", bytes), "a", "b*"), "*");

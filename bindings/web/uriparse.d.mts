@@ -105,6 +105,12 @@ export interface URIs {
   normalize(text: Input): string;
   /** Characters from U+0001 to U+007E. "normal" is of the normal form, "page" of that without a default port and a fragment. */
   key(text: Input, form?: "exact" | "normal" | "page"): string;
+  /** Characters from U+0001 to U+007E, which begin with the host from its last label on. */
+  placeKey(text: Input): string;
+  /** What the place keys of all URIs within the domain begin with, and those of no other. */
+  domainPrefix(domain: Input): string;
+  /** What the place keys of all URIs below the base begin with. */
+  basePrefix(base: Input): string;
   resolve(base: Input, reference: Input): string;
   relativize(base: Input, uri: Input): string;
   /** Null for a URI without a host, or with an empty one. The name "%31.2.3.4" and the address "1.2.3.4" have one text. */

@@ -603,6 +603,26 @@ class URIs {
     return this.#written("uriparse_key", [textOf(text)], [KEYS[form]]);
   }
 
+  /** The place key of a URI, which begins with the host from its last label on: the URIs within a domain, and those below a base, are a range. */
+  placeKey(text) {
+    return this.#written("uriparse_place_key", [textOf(text)]);
+  }
+
+  /** What the place keys of all URIs within a domain begin with, and those of no other. */
+  domainPrefix(domain) {
+    domain = textOf(domain);
+    const { code, bytes } = this.#answer("uriparse_domain_prefix", [domain]);
+    if (code !== 0) {
+      throw this.#errorIn("host", code, domain, "domain");
+    }
+    return this.#string(bytes);
+  }
+
+  /** What the place keys of all URIs below a base begin with. */
+  basePrefix(base) {
+    return this.#written("uriparse_base_prefix", [textOf(base)]);
+  }
+
   /** The text of the target of a reference against a base: section 5.2.2. */
   resolve(base, reference) {
     return this.#written("uriparse_resolve", [textOf(base), textOf(reference)]);
