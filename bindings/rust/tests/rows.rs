@@ -365,10 +365,9 @@ fn allowed_target(page: &Uri<'_>, location: &str, directory: Option<&Uri<'_>>) -
     let target = page.resolve(&UriRef::parse(location).ok()?).ok()?;
     let uri = target.as_uri();
     let is_allowed = uri.scheme().eq_ignore_ascii_case("https")
-        && uri.username().is_none()
+        && uri.disagreement().is_none()
         && uri.host_kind() == Some(HostKind::Name)
         && uri.host_is_within_any("example.com example.org") == Ok(true)
-        && !(uri.hides_address() || uri.may_be_numeric() || uri.has_escapes())
         && matches!(uri.port_number(), None | Some(443))
         && directory.map_or(true, |directory| uri.is_within(directory));
     is_allowed.then_some(target)
